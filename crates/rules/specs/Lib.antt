@@ -1,0 +1,14 @@
+pub mod Numbers
+pub mod Shapes
+pub mod Refusals
+pub mod Steps
+pub mod Sound
+pub mod Unique
+pub mod Sweep
+pub mod Calls
+pub mod Trails
+pub mod Runner
+pub mod Ecma
+pub mod Text
+pub mod Transcript
+pub mod Lessons

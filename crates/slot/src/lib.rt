@@ -1,0 +1,2 @@
+// slot.rs: attributes, widths and indices of storage places.
+pub struct SlotIndex(pub u32);

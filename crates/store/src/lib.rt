@@ -1,0 +1,41 @@
+// The records of the lent image: a shape, an entry of a table, an edge.
+// They are the model's records too, so that code and definitions speak of the same things.
+use slot::SlotIndex;
+
+// How many edges of each kind were added since the last prune.
+pub struct Counters {
+    pub property: u32,
+    pub prototype: u32,
+}
+
+pub struct Shape {
+    // 0 free, 1 shared, 2 unique
+    pub state: u32,
+    pub holds: u32,
+    // 0 for none
+    pub previous: u32,
+    // 0 insert, 1 configure, 2 prototype
+    pub step: u32,
+    pub transitions: u32,
+    pub properties: u32,
+    pub prototype: u32,
+    pub table: u32,
+    pub counters: Counters,
+}
+
+pub struct Entry {
+    pub key: u32,
+    pub attributes: u32,
+    pub slot: SlotIndex,
+}
+
+pub struct Edge {
+    pub parent: u32,
+    // 0 property, 1 prototype
+    pub kind: u32,
+    // the key, or the prototype
+    pub label: u32,
+    pub attributes: u32,
+    // 0 for a dead edge
+    pub child: u32,
+}
