@@ -139,9 +139,8 @@ readTable r = readEntries (getD r 0 0) (drop 1 r)
 unfoldable pub words : Model → List ℕ
 words m =
     header (limitsOf m)
-    ++ flat (map shapeWords (m .shapes))
-    ++ flat (map (tableWords (m .K)) (m .tables))
-    ++ flat (map edgeWords (m .edges))
+    ++ (flat (map shapeWords (m .shapes))
+    ++ (flat (map (tableWords (m .K)) (m .tables)) ++ flat (map edgeWords (m .edges))))
 
 -- "Formatting zeroes the slice and writes the header."
 abbrev pub formatted : Limits → List ℕ
@@ -174,6 +173,9 @@ tidyTables ws = every (tidyTable (limitsIn ws .K)) (tableRows ws)
 unfoldable pub laidOut : List ℕ → Bool
 laidOut ws = goodHeader ws && tidyTables ws
 
+abbrev pub roomFor : (K : ℕ) → Table → Bool
+roomFor K t = leb (length (entriesOf t)) K
+
 -- A model within its limits: no table has more than K entries.
 unfoldable pub fits : Model → Bool
-fits m = every (λ t. leb (length (entriesOf t)) (m .K)) (m .tables)
+fits m = every (roomFor (m .K)) (m .tables)
