@@ -1,2 +1,4 @@
 pub mod If
 pub mod Attributes
+pub mod Slots
+pub mod Bytes
