@@ -180,7 +180,10 @@ after m (c ∷ cs) = after (call m c .0) cs
 -- ## Formatting
 
 -- "BadSize: formatting: a limit or the total out of range, or slice length differs from the total"
-unfoldable pub format : Limits → List ℕ → List ℕ × Reply
-format l ws = settle ws do
+abbrev pub formatting : Limits → List ℕ → Got (List ℕ × Answer)
+formatting l ws = do
   refuse BadSize (not (goodLimits l && eqb (length ws) (total l)))
   ok (formatted l, Done)
+
+unfoldable pub format : Limits → List ℕ → List ℕ × Reply
+format l ws = settle ws (formatting l ws)

@@ -12,3 +12,7 @@ pub mod Ecma
 pub mod Text
 pub mod Transcript
 pub mod Lessons
+pub mod Settled
+pub mod FirstLaws
+pub mod Formatted
+pub mod InOrder

@@ -1,6 +1,7 @@
 pub mod Lists
 pub mod Model
 pub mod Layout
+pub mod PlaceLaws
 pub mod ListLaws
 pub mod Rows
 pub mod Records

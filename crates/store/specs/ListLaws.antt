@@ -1,7 +1,6 @@
--- Laws on places and on tests over lists, for any test: what a test that passes says, and when it passes.
+-- Laws on tests over lists, for any test: what a test that passes says, and when it passes.
 -- Assumes nothing.
 use mathlib.Core.Path.{_≡_, refl, sym, ap, ap₂}
-use mathlib.Core.Logic.{_≢_}
 use mathlib.Core.Bool.{Bool, true, false, _&&_, false≢true}
 use mathlib.Core.List.{List, [], _∷_, map}
 use Prim.Native.Nat.{ℕ, zero, suc, _≤_}
@@ -9,29 +8,9 @@ use native.Mathlib.Nat.{not-suc-le-zero}
 use native.Mathlib.Omega.{arith}
 use borrow.Author.Tests.{eqb-true, eq-eqb}
 use lib.Dec.{eqb}
-use lib.ListN.{length, replicate, length-set}
-use lib.Seq.{getD-set-same, getD-set-other}
-use Rattle.store.specs.Lists.{at, put, every, all, agree, zeros}
-
--- ## Places
-
-module _ {A : Type 0} where
-  pub length-put : (xs : List A) (n : ℕ) (x : A) → length (put xs n x) ≡ length xs
-  length-put xs zero x = refl
-  length-put xs (suc n) x = length-set xs n x
-
-  pub at-put-same : (xs : List A) (n : ℕ) (x d : A) → 1 ≤ n → n ≤ length xs → at (put xs n x) n d ≡ x
-  at-put-same xs zero x d low high = absurd (not-suc-le-zero low)
-  at-put-same xs (suc n) x d low high = getD-set-same xs n x d high
-
-  pub at-put-other : (xs : List A) (n k : ℕ) (x d : A) → k ≢ n → at (put xs n x) k d ≡ at xs k d
-  at-put-other xs zero k x d h = refl
-  at-put-other xs (suc n) zero x d h = refl
-  at-put-other xs (suc n) (suc k) x d h = getD-set-other xs n k x d (λ e. h (ap suc e))
-
-  at-tail : (x : A) (xs : List A) (n : ℕ) (d : A) → 1 ≤ n → at (x ∷ xs) (suc n) d ≡ at xs n d
-  at-tail x xs zero d low = absurd (not-suc-le-zero low)
-  at-tail x xs (suc n) d low = refl
+use lib.ListN.{length, replicate}
+use Rattle.store.specs.Lists.{at, numbered, every, all, agree, zeros}
+use Rattle.store.specs.PlaceLaws.{at-tail}
 
 -- ## Tests that pass
 
@@ -43,6 +22,11 @@ and-both false e = absurd (false≢true e)
 abbrev pub Passed : List Bool → Type 0
 Passed [] = Unit {0}
 Passed (b ∷ bs) = (b ≡ true) × Passed bs
+
+-- What each test of a list says, one after the other, and `tt` at the end.
+infixr 5 _and_
+abbrev pub _and_ : {A B : Type 0} → A → B → A × B
+x and y = (x, y)
 
 pub all-passed : (bs : List Bool) → all bs ≡ true → Passed bs
 all-passed [] e = tt
@@ -78,6 +62,12 @@ module _ {A : Type 0} (test : A → Bool) where
   pub every-map : {B : Type 0} (f : B → A) (xs : List B) → every test (map f xs) ≡ every (λ x. test (f x)) xs
   every-map f [] = refl
   every-map f (x ∷ xs) = ap (λ (b : Bool). test (f x) && b) (every-map f xs)
+
+-- A test that x passes at every place passes all of them.
+pub every-same : {A : Type 0} (test : ℕ × A → Bool) (x : A) → ((place : ℕ) → test (place, x) ≡ true)
+    → (start n : ℕ) → every test (numbered start (replicate n x)) ≡ true
+every-same test x h start zero = refl
+every-same test x h start (suc n) = rw (h start) (every-same test x h (suc start) n)
 
 -- Where one test passes, a test that follows from it passes too.
 pub every-then : {A : Type 0} {test other : A → Bool} → ((x : A) → test x ≡ true → other x ≡ true)

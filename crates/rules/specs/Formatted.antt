@@ -1,0 +1,109 @@
+-- A formatted image is sound.
+-- Assumes nothing.
+use mathlib.Core.Bool.{Bool, true, _&&_, not, Bool·not-not}
+use mathlib.Core.List.{List}
+use mathlib.Core.Path.{_≡_, refl, sym, _∙_, ap}
+use Prim.Native.Nat.{ℕ, zero, suc}
+use lib.Dec.{eqb}
+use lib.ListN.{length, replicate}
+use Rattle.store.specs.Lists.{numbered, every}
+use Rattle.store.specs.Model.{Limits, Table, free, noShape, noEdge, blank}
+use Rattle.store.specs.Layout.{total, goodLimits, goodHeader, formatted, parse, laidOut}
+use Rattle.store.specs.ListLaws.{and-both, _and_, passed-all, every-replicate, every-same}
+use Rattle.store.specs.ThereAndBack.{parse-words, blank-words, fits-blank, laid-formatted}
+use Rattle.store.specs.declared.Shape.{Shape}
+use Rattle.store.specs.declared.Edge.{Edge}
+use Rattle.rules.specs.declared.Refusal.the-variants.{BadSize}
+use Rattle.rules.specs.Sound.{
+  inRange,
+  tableInUse,
+  freeZero,
+  tablesGood,
+  tablesUsed,
+  countsFit,
+  rootsZero,
+  childrenLinked,
+  childrenStepped,
+  noTwoAlike,
+  edgesDiffer,
+  edgesGood,
+  transitionsLimited,
+  holdsLimited,
+  uniquesZero,
+  modelSentences,
+  soundModel,
+  wordSentences,
+  soundWords,
+  sound,
+}
+use Rattle.rules.specs.Calls.{Done, Yes, formatting, format}
+use Rattle.rules.specs.Settled.{guard-passed, same-given, settle-answered}
+
+-- Free edges are no two alike.
+free-unlike : (n : ℕ) → noTwoAlike (replicate n noEdge) ≡ true
+free-unlike zero = refl
+free-unlike (suc n) = free-unlike n
+
+-- A model whose records are all free is sound.
+pub blank-sound : (l : Limits) → soundModel (blank l) ≡ true
+unfolding
+    soundModel
+    inRange
+    tableInUse
+    freeZero
+    tablesGood
+    tablesUsed
+    countsFit
+    rootsZero
+    childrenLinked
+    childrenStepped
+    edgesDiffer
+    edgesGood
+    transitionsLimited
+    holdsLimited
+    uniquesZero
+blank-sound l =
+    passed-all (modelSentences (blank l))
+    (rw (shapes _ (λ n. refl)) (edges _ refl)
+    and shapes _ (λ n. refl)
+    and rw (every-replicate _ (l .S) noShape refl) (edges _ refl)
+    and tables _ (λ n. refl)
+    and rw (tables _ (λ n. refl)) (shapes _ (λ n. refl))
+    and shapes _ (λ n. refl)
+    and shapes _ (λ n. refl)
+    and shapes _ (λ n. refl)
+    and shapes _ (λ n. refl)
+    and free-unlike (l .E)
+    and edges _ refl
+    and shapes _ (λ n. refl)
+    and shapes _ (λ n. refl)
+    and shapes _ (λ n. refl)
+    and tt)
+  where
+    shapes : (test : ℕ × Shape → Bool) → ((n : ℕ) → test (n, noShape) ≡ true)
+        → every test (numbered 1 (replicate (l .S) noShape)) ≡ true
+    shapes test h = every-same test noShape h 1 (l .S)
+
+    tables : (test : ℕ × Table → Bool) → ((n : ℕ) → test (n, free) ≡ true)
+        → every test (numbered 1 (replicate (l .T) free)) ≡ true
+    tables test h = every-same test free h 1 (l .T)
+
+    edges : (test : Edge → Bool) → test noEdge ≡ true → every test (replicate (l .E) noEdge) ≡ true
+    edges test h = every-replicate test (l .E) noEdge h
+
+-- Zeros after a header with limits in range are sound.
+pub formatted-sound : (l : Limits) → goodLimits l ≡ true → sound (formatted l) ≡ true
+unfolding sound soundWords laidOut
+formatted-sound l good =
+    let read = ap parse (sym (blank-words l)) ∙ parse-words (blank l) (fits-blank l) in
+    let laid = and-both (goodHeader (formatted l)) (laid-formatted l) in
+    rw (passed-all (wordSentences (formatted l)) (good and laid .0 and laid .1 and tt), read) (blank-sound l)
+
+-- "A formatting that is not refused" leaves "a sound image".
+pub format-sound : (l : Limits) (ws : List ℕ) → format l ws .1 ≡ Yes Done → sound (format l ws .0) ≡ true
+unfolding format
+format-sound l ws e =
+    let fit = goodLimits l && eqb (length ws) (total l) in
+    let passed = guard-passed BadSize (not fit) _ _ (settle-answered ws (formatting l ws) Done e) in
+    let fits = sym (Bool·not-not fit) ∙ ap not (passed .0) in
+    rw (← (ap (λ x. x .0) (same-given (passed .1)))) (formatted-sound l (and-both (goodLimits l) fits .0))
