@@ -1,0 +1,63 @@
+//! Reads one input line.
+
+const LONGEST: usize = 64;
+
+#[derive(Debug, Clone, Copy)]
+pub enum Line {
+    Root,
+    Unique,
+    Call(Call),
+    Release { handle: u32 },
+    Sweep,
+    ShowLive,
+}
+
+/// A transition from the shape of a handle.
+#[derive(Debug, Clone, Copy)]
+pub struct Call {
+    pub handle: u32,
+    pub kind: CallKind,
+}
+
+#[derive(Debug, Clone, Copy)]
+pub enum CallKind {
+    Insert { key: u32, attributes: u32 },
+    Change { key: u32, attributes: u32 },
+    Remove { key: u32 },
+    Prototype { prototype: u32 },
+}
+
+/// The line of these bytes, which end with a line feed if the line was ended.
+pub fn parse(bytes: &[u8]) -> Option<Line> {
+    let bytes = bytes.strip_suffix(b"\n")?;
+    if bytes.len() > LONGEST {
+        return None;
+    }
+    let mut words = bytes.split(|byte| *byte == b' ');
+    let letter = words.next()?;
+    let numbers = words.map(number).collect::<Option<Vec<u32>>>()?;
+    let call = |handle, kind| Some(Line::Call(Call { handle, kind }));
+    match (letter, numbers.as_slice()) {
+        (b"R", []) => Some(Line::Root),
+        (b"U", []) => Some(Line::Unique),
+        (b"I", &[handle, key, attributes]) => call(handle, CallKind::Insert { key, attributes }),
+        (b"C", &[handle, key, attributes]) => call(handle, CallKind::Change { key, attributes }),
+        (b"D", &[handle, key]) => call(handle, CallKind::Remove { key }),
+        (b"P", &[handle, prototype]) => call(handle, CallKind::Prototype { prototype }),
+        (b"F", &[handle]) => Some(Line::Release { handle }),
+        (b"S", []) => Some(Line::Sweep),
+        (b"?", []) => Some(Line::ShowLive),
+        _ => None,
+    }
+}
+
+/// Not `str::parse`, which would take a plus sign too.
+fn number(word: &[u8]) -> Option<u32> {
+    if word.is_empty() {
+        return None;
+    }
+    word.iter().try_fold(0u32, |number, byte| {
+        let digit = byte.is_ascii_digit().then(|| u32::from(byte - b'0'))?;
+        number.checked_mul(10)?.checked_add(digit)
+    })
+}

@@ -1,0 +1,189 @@
+//! One run: the live handles, and the answer to each line.
+
+use std::{
+    collections::{BTreeMap, BTreeSet},
+    io::{Result, Write},
+};
+
+use boa_gc::kept;
+
+use crate::{
+    calls::{self, Answer},
+    line::{self, Call, CallKind, Line},
+    object::{
+        prototype_number,
+        shape::{
+            Shape, SharedShape,
+            shared_shape::template::{entries, kept_tables, transition_count},
+            slot::Slot,
+        },
+    },
+    property::PropertyKey,
+    refusal::Refusal,
+};
+
+pub struct Run<W> {
+    out: W,
+    /// Make the calls too that the rules refuse, and catch their panics.
+    catch: bool,
+    live: BTreeMap<u32, Shape>,
+    last_handle: u32,
+    /// Every good key of the run so far, asked for in each shape.
+    keys: BTreeSet<u32>,
+    pub lookups_agree: bool,
+}
+
+/// Whether the run goes on after a line.
+#[derive(PartialEq, Eq)]
+pub enum Next {
+    GoOn,
+    Panicked,
+}
+
+impl<W: Write> Run<W> {
+    pub fn new(out: W, catch: bool) -> Self {
+        Self {
+            out,
+            catch,
+            live: BTreeMap::new(),
+            last_handle: 0,
+            keys: BTreeSet::new(),
+            lookups_agree: true,
+        }
+    }
+
+    pub fn answer(&mut self, bytes: &[u8]) -> Result<Next> {
+        match line::parse(bytes) {
+            None => self.refuse(Refusal::BadLine)?,
+            Some(Line::Root) => self.grant(SharedShape::root().into(), 0)?,
+            Some(Line::Unique) => self.grant(Shape::default(), 0)?,
+            Some(Line::Call(call)) => return self.answer_call(call),
+            Some(Line::Release { handle }) => match self.live.remove(&handle) {
+                Some(_) => writeln!(self.out, "released {handle}")?,
+                None => self.refuse(Refusal::NoShape)?,
+            },
+            Some(Line::Sweep) => self.sweep()?,
+            Some(Line::ShowLive) => self.show_live()?,
+        }
+        Ok(Next::GoOn)
+    }
+
+    /// Tables are shared, so a step may spoil a shape that was right before.
+    pub fn check_all(&mut self) -> Result<()> {
+        let live = self.live.clone();
+        live.iter()
+            .try_for_each(|(handle, shape)| self.check_lookups(*handle, shape))
+    }
+
+    fn answer_call(&mut self, call: Call) -> Result<Next> {
+        self.note_key(call.kind);
+        match calls::make(&call, self.live.get(&call.handle), self.catch) {
+            Answer::Shape { shape, action } => self.grant(shape, action)?,
+            Answer::Refused(refusal) => self.refuse(refusal)?,
+            Answer::Panicked(message) => {
+                writeln!(self.out, "panic: {message}")?;
+                return Ok(Next::Panicked);
+            }
+        }
+        Ok(Next::GoOn)
+    }
+
+    fn note_key(&mut self, kind: CallKind) {
+        if let CallKind::Insert { key, .. }
+        | CallKind::Change { key, .. }
+        | CallKind::Remove { key } = kind
+            && PropertyKey::from_number(key).is_some()
+        {
+            self.keys.insert(key);
+        }
+    }
+
+    fn grant(&mut self, shape: Shape, action: u8) -> Result<()> {
+        self.last_handle += 1;
+        let handle = self.last_handle;
+        self.live.insert(handle, shape.clone());
+        self.show(handle, &shape, action)
+    }
+
+    fn refuse(&mut self, refusal: Refusal) -> Result<()> {
+        writeln!(self.out, "refused {}", refusal as u8)
+    }
+
+    fn sweep(&mut self) -> Result<()> {
+        let tables = kept_tables();
+        let shapes_freed = kept::sweep();
+        let tables_freed = tables - kept_tables();
+        writeln!(self.out, "swept {shapes_freed} {tables_freed}")
+    }
+
+    fn show_live(&mut self) -> Result<()> {
+        let live = self.live.clone();
+        writeln!(self.out, "live {}", live.len())?;
+        live.iter()
+            .try_for_each(|(handle, shape)| self.show(*handle, shape, 0))
+    }
+
+    fn show(&mut self, handle: u32, shape: &Shape, action: u8) -> Result<()> {
+        let form = if shape.is_shared() {
+            "shared"
+        } else {
+            "unique"
+        };
+        let count = transition_count(shape);
+        let proto = prototype_number(&shape.prototype());
+        let same = self.same_shape_before(handle, shape);
+        let entries = list(
+            entries(shape)
+                .into_iter()
+                .map(|(key, slot)| format!("{}:{}", key.number(), slot_text(Some(slot)))),
+        );
+        let keys = list(shape.keys().iter().map(|key| key.number().to_string()));
+        writeln!(
+            self.out,
+            "shape {handle} {form} count {count} action {action} proto {proto} same {same} \
+             entries {entries} keys {keys}"
+        )?;
+        self.check_lookups(handle, shape)
+    }
+
+    /// The lowest live handle before `handle` of this very shape, or 0.
+    fn same_shape_before(&self, handle: u32, shape: &Shape) -> u32 {
+        let address = shape.to_addr_usize();
+        self.live
+            .range(..handle)
+            .find(|(_, other)| other.to_addr_usize() == address)
+            .map_or(0, |(other, _)| *other)
+    }
+
+    fn check_lookups(&mut self, handle: u32, shape: &Shape) -> Result<()> {
+        let entries: BTreeMap<u32, _> = entries(shape)
+            .into_iter()
+            .map(|(key, slot)| (key.number(), slot))
+            .collect();
+        for number in &self.keys {
+            let key = PropertyKey::from_number(*number).expect("only good keys are noted");
+            let answer = shape.lookup(&key);
+            let entry = entries.get(number).copied();
+            if answer != entry {
+                self.lookups_agree = false;
+                writeln!(
+                    self.out,
+                    "error: shape {handle} key {number} lookup {} entry {}",
+                    slot_text(answer),
+                    slot_text(entry)
+                )?;
+            }
+        }
+        Ok(())
+    }
+}
+
+fn slot_text(slot: Option<Slot>) -> String {
+    slot.map_or("none".to_string(), |slot| {
+        format!("{}:{}", slot.attributes.bits(), slot.index)
+    })
+}
+
+fn list(items: impl Iterator<Item = String>) -> String {
+    format!("[{}]", items.collect::<Vec<_>>().join(" "))
+}
