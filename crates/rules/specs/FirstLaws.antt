@@ -1,6 +1,6 @@
 -- The first laws of the definitions: refusals, the lowest free place, lookup, prunes.
 -- Assumes nothing.
-use mathlib.Core.Bool.{Bool, true, false, _&&_, not, and-false}
+use mathlib.Core.Bool.{Bool, true, false, not, and-false}
 use mathlib.Core.List.{List}
 use mathlib.Core.Logic.{_↔_, _⊎_, inl, inr, _≢_}
 use mathlib.Core.Option.{Option, none, some}
@@ -10,7 +10,7 @@ use native.Mathlib.Nat.{not-suc-le-zero, le-of-suc-le-suc}
 use native.Mathlib.Omega.{arith}
 use native.Mathlib.Numerals.{one-add}
 use borrow.Author.Tests.{eqb-true, eqb-false, ne-eqb}
-use lib.Dec.{eqb, eqb·suc-zero}
+use lib.Dec.{eqb·suc-zero}
 use lib.ListN.{length, getD, length-take}
 use lib.Seq.{getD-take}
 use Rattle.slot.specs.If.{if_then_else_}
@@ -23,31 +23,14 @@ use Rattle.store.specs.declared.Shape.{Shape}
 use Rattle.store.specs.declared.Entry.{Entry}
 use Rattle.store.specs.declared.Edge.{Edge}
 use Rattle.rules.specs.declared.Refusal.{Refusal}
-use Rattle.rules.specs.declared.Refusal.the-variants.{Damaged, BadKey, NoShape, BadSize}
+use Rattle.rules.specs.declared.Refusal.the-variants.{Damaged, BadKey, NoShape}
 use Rattle.rules.specs.Numbers.{goodKey}
 use Rattle.rules.specs.Refusals.{ok, refused, _>>_, refuse, place}
 use Rattle.rules.specs.Shapes.{entry, isKey, tableOf, entries}
 use Rattle.rules.specs.Steps.{dead, prune}
 use Rattle.rules.specs.Sound.{soundModel, wordSentences, soundWords}
 use Rattle.rules.specs.Sweep.{found}
-use Rattle.rules.specs.Calls.{
-  Call,
-  lookup,
-  Answer,
-  Done,
-  Found,
-  NotFound,
-  unheld,
-  slotOf,
-  perform,
-  Reply,
-  No,
-  Yes,
-  call,
-  callOn,
-  formatting,
-  format,
-}
+use Rattle.rules.specs.Calls.{Call, lookup, Answer, Found, NotFound, unheld, slotOf, perform, Reply, No, Yes, call, callOn, formatting, format}
 use Rattle.rules.specs.Settled.{guard-passed, same-given, settle-refused, call-answered}
 use Rattle.store.specs.PlaceLaws.{
   NoneBelow,

@@ -1,6 +1,6 @@
 -- Document 01, "Trails and steps": shared shapes.
 -- Assumes nothing.
-use mathlib.Core.Bool.{Bool, true, false, _&&_, _||_, not}
+use mathlib.Core.Bool.{Bool, true, _&&_, _||_, not}
 use mathlib.Core.List.{List, [], _∷_, _++_, map}
 use mathlib.Core.Option.{Option, none, some}
 use Prim.Native.Nat.{ℕ, zero, suc, _+_}
@@ -8,7 +8,7 @@ use lib.Dec.{eqb}
 use lib.ListN.{length}
 use Rattle.slot.specs.If.{if_then_else_}
 use Rattle.slot.specs.Attributes.{sameWidth}
-use Rattle.store.specs.Lists.{put, any, first, last}
+use Rattle.store.specs.Lists.{any, first, last}
 use Rattle.store.specs.Model.{
   Model,
   used,
@@ -28,7 +28,7 @@ use Rattle.store.specs.declared.Shape.{Shape}
 use Rattle.store.specs.declared.Entry.{Entry}
 use Rattle.store.specs.declared.Edge.{Edge}
 use Rattle.rules.specs.declared.Refusal.the-variants.{KeysFull, ShapesFull, TablesFull, EdgesFull}
-use Rattle.rules.specs.Refusals.{Got, ok, refused, _>>=_, _>>_, refuse, place}
+use Rattle.rules.specs.Refusals.{Got, ok, _>>=_, _>>_, refuse, place}
 use Rattle.rules.specs.Shapes.{
   isKey,
   has,

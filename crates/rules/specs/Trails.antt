@@ -1,9 +1,7 @@
 -- Document 01, "Trails and steps": "A shared shape's trail is the list of steps from its root".
 -- Assumes nothing.
 use mathlib.Core.List.{List, [], _∷_, _++_}
-use mathlib.Core.Option.{Option, none, some}
 use Prim.Native.Nat.{ℕ, zero, suc}
-use lib.Dec.{eqb}
 use Rattle.store.specs.Lists.{last}
 use Rattle.store.specs.Model.{Model, noEdge, shapeAt}
 use Rattle.rules.specs.Steps.{Step, chain}

@@ -1,7 +1,7 @@
 -- The attribute definitions, run at every byte: one computed test.
 -- Each is held against sums of the names' numbers, so that nothing here leans on the bit operations.
 -- Assumes nothing.
-use mathlib.Core.Bool.{Bool, true, _&&_, _||_, not, Bool·beq}
+use mathlib.Core.Bool.{Bool, true, _&&_, _||_, Bool·beq}
 use mathlib.Core.Path.{_≡_, refl}
 use Prim.Native.Nat.{ℕ, zero, suc, _+_, _*_}
 use lib.Dec.{eqb}
