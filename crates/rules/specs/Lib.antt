@@ -12,6 +12,11 @@ pub mod Ecma
 pub mod Text
 pub mod Transcript
 pub mod Lessons
+pub mod Refused
+pub mod Broken
+pub mod Worked
+pub mod AtLimit
+pub mod RunnerLines
 pub mod Settled
 pub mod FirstLaws
 pub mod Formatted

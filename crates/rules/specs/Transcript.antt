@@ -3,8 +3,10 @@
 use mathlib.Core.List.{List, [], _∷_, map}
 use Prim.Native.Nat.{ℕ, _+_, _*_, _^_}
 use Rattle.slot.specs.Attributes.{present, accessor, width}
-use Rattle.store.specs.Layout.{flat}
-use Rattle.store.specs.Model.{Limits, Model, shapeAt, tableAt, putShape, putTable, putEdge}
+use Rattle.store.specs.Layout.{readShape, readEdge, flat}
+use Rattle.store.specs.declared.Shape.{Shape}
+use Rattle.store.specs.declared.Edge.{Edge}
+use Rattle.store.specs.Model.{Table, Limits, Model, shapeAt, tableAt, putShape, putTable, putEdge}
 use Rattle.rules.specs.declared.ChangeTransitionAction.the-variants.{Nothing}
 use Rattle.rules.specs.Steps.{
   pruned,
@@ -72,6 +74,8 @@ answers m (l ∷ ls) = let r = call m (l .0) in r .1 ∷ answers (r .0) ls
 abbrev pub expected : List Line → List Reply
 expected ls = map (λ l. l .1) ls
 
+-- ## Replies
+
 -- A shape and its transition count; a slot index and attributes; a list; a number.
 abbrev pub gives : (shape transitions : ℕ) → Reply
 gives n count = Yes (Given n Nothing count)
@@ -82,8 +86,26 @@ at x attributes = Yes (Found x attributes)
 abbrev pub nowhere : Reply
 nowhere = Yes NotFound
 
+-- ## Images
+
+abbrev pub limits : (S T K E : ℕ) → Limits
+limits S T K E = record { S = S; T = T; K = K; E = E }
+
 abbrev pub small : Limits
-small = record { S = 16; T = 8; K = 8; E = 16 }
+small = limits 16 8 8 16
+
+-- An image by hand: a shape's ten words, and an edge's five, in the order of "The image".
+abbrev pub image : (K : ℕ) → List Shape → List Table → List Edge → Model
+image K ss ts es = record { K = K; shapes = ss; tables = ts; edges = es }
+
+abbrev pub shape :
+    (state holds previous step transitions properties prototype table counter counter′ : ℕ) → Shape
+shape st h pr k n ps p t x y = readShape (st ∷ h ∷ pr ∷ k ∷ n ∷ ps ∷ p ∷ t ∷ x ∷ y ∷ [])
+
+abbrev pub edge : (parent kind label attributes child : ℕ) → Edge
+edge p kind l x ch = readEdge (p ∷ kind ∷ l ∷ x ∷ ch ∷ [])
+
+-- ## Keys
 
 -- Strings a, b, c, a symbol s and an index key.
 abbrev pub a : ℕ
