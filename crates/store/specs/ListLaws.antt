@@ -1,15 +1,18 @@
 -- Laws on tests over lists, for any test: what a test that passes says, and when it passes.
 -- Assumes nothing.
-use mathlib.Core.Path.{_≡_, refl, sym, ap, ap₂}
-use mathlib.Core.Bool.{Bool, true, false, _&&_, false≢true}
-use mathlib.Core.List.{List, [], _∷_, map}
-use Prim.Native.Nat.{ℕ, zero, suc, _≤_}
-use native.Mathlib.Nat.{not-suc-le-zero}
+use mathlib.Core.Path.{_≡_, refl, sym, _∙_, ap, ap₂}
+use mathlib.Core.Bool.{Bool, true, false, _&&_, _||_, not, or-assoc, true≢false, false≢true}
+use mathlib.Core.List.{List, [], _∷_, _++_, map}
+use mathlib.Core.Logic.{_⊎_, inl, inr}
+use Prim.Native.Nat.{ℕ, zero, suc, _+_, _≤_}
+use native.Mathlib.Nat.{not-suc-le-zero, add-zero, add-suc, suc-add}
+use native.Mathlib.Numerals.{one-add}
 use native.Mathlib.Omega.{arith}
 use borrow.Author.Tests.{eqb-true, eq-eqb}
 use lib.Dec.{eqb}
-use lib.ListN.{length, replicate}
-use Rattle.store.specs.Lists.{at, numbered, every, all, agree, zeros}
+use lib.ListN.{length, getD, replicate}
+use Rattle.slot.specs.If.{if_then_else_}
+use Rattle.store.specs.Lists.{at, numbered, keep, every, any, all, agree, zeros}
 use Rattle.store.specs.PlaceLaws.{at-tail}
 
 -- ## Tests that pass
@@ -17,6 +20,26 @@ use Rattle.store.specs.PlaceLaws.{at-tail}
 pub and-both : (a : Bool) {b : Bool} → (a && b) ≡ true → (a ≡ true) × (b ≡ true)
 and-both true e = (refl, e)
 and-both false e = absurd (false≢true e)
+
+pub both-and : {a b : Bool} → a ≡ true → b ≡ true → (a && b) ≡ true
+both-and e f = rw e f
+
+-- A test that stands behind another.
+pub or-then : (a : Bool) {b : Bool} → (a || b) ≡ true → a ≡ false → b ≡ true
+or-then true e f = absurd (true≢false f)
+or-then false e f = e
+
+pub then-or : (a : Bool) {b : Bool} → (a ≡ false → b ≡ true) → (a || b) ≡ true
+then-or true h = refl
+then-or false h = h refl
+
+pub not-then : (a : Bool) {b : Bool} → (not a || b) ≡ true → a ≡ true → b ≡ true
+not-then true e f = e
+not-then false e f = absurd (false≢true f)
+
+pub then-not : (a : Bool) {b : Bool} → (a ≡ true → b ≡ true) → (not a || b) ≡ true
+then-not true h = h refl
+then-not false h = refl
 
 -- Each test of a list has passed.
 abbrev pub Passed : List Bool → Type 0
@@ -77,6 +100,12 @@ every-then {test = test} h (x ∷ xs) e =
     let p = and-both (test x) e in
     rw (h x (p .0)) (every-then h xs (p .1))
 
+pub any-append : {A : Type 0} (test : A → Bool) (xs ys : List A)
+    → any test (xs ++ ys) ≡ (any test xs || any test ys)
+any-append test [] ys = refl
+any-append test (x ∷ xs) ys =
+    ap (λ (b : Bool). test x || b) (any-append test xs ys) ∙ sym (or-assoc (test x) (any test xs) (any test ys))
+
 -- The test that all pass.
 abbrev pub always : {A : Type 0} → A → Bool
 always x = true
@@ -84,6 +113,169 @@ always x = true
 pub every-always : {A : Type 0} (xs : List A) → every always xs ≡ true
 every-always [] = refl
 every-always (x ∷ xs) = every-always xs
+
+-- ## At every place, place 0 and those past the end included: d is what stands there
+
+module _ {A : Type 0} (d : A) where
+  -- A test that d passes passes at every place.
+  pub every-place : (test : A → Bool) (xs : List A) → test d ≡ true → every test xs ≡ true
+      → (n : ℕ) → test (at xs n d) ≡ true
+  every-place test xs out e zero = out
+  every-place test [] out e (suc n) = out
+  every-place test (x ∷ xs) out e (suc zero) = and-both (test x) e .0
+  every-place test (x ∷ xs) out e (suc (suc n)) = every-place test xs out (and-both (test x) e .1) (suc n)
+
+  -- The same of a test that sees the place too,
+  every-from : (test : ℕ × A → Bool) → ((n : ℕ) → test (n, d) ≡ true)
+      → (start : ℕ) (xs : List A) → every test (numbered start xs) ≡ true
+      → (k : ℕ) → test (start + k, getD xs k d) ≡ true
+  every-from test out start [] e k = out (start + k)
+  every-from test out start (x ∷ xs) e zero = rw add-zero (and-both (test (start, x)) e .0)
+  every-from test out start (x ∷ xs) e (suc k) =
+      let rest = every-from test out (suc start) xs (and-both (test (start, x)) e .1) k in
+      rw (add-suc start k, ← suc-add start k) rest
+
+  pub every-numbered : (test : ℕ × A → Bool) → ((n : ℕ) → test (n, d) ≡ true)
+      → (xs : List A) → every test (numbered 1 xs) ≡ true
+      → (n : ℕ) → test (n, at xs n d) ≡ true
+  every-numbered test out xs e zero = out 0
+  every-numbered test out xs e (suc k) = rw one-add at (every-from test out 1 xs e k)
+
+  -- and back.
+  from-every : (test : ℕ × A → Bool) (start : ℕ) (xs : List A)
+      → ((k : ℕ) → test (start + k, getD xs k d) ≡ true) → every test (numbered start xs) ≡ true
+  from-every test start [] h = refl
+  from-every test start (x ∷ xs) h =
+      let rest = from-every test (suc start) xs (λ k. rw (suc-add start k, ← add-suc start k) (h (suc k))) in
+      rw (rw add-zero at (h 0)) rest
+
+  pub numbered-every : (test : ℕ × A → Bool) (xs : List A) → ((n : ℕ) → test (n, at xs n d) ≡ true)
+      → every test (numbered 1 xs) ≡ true
+  numbered-every test xs h = from-every test 1 xs (λ k. rw one-add (h (suc k)))
+
+-- ## Where a test passes that d fails
+
+-- A test has passed or failed.
+abbrev pub Decided : Bool → Type 0
+Decided b = (b ≡ true) ⊎ (b ≡ false)
+
+pub either : (b : Bool) → Decided b
+either true = inl refl
+either false = inr refl
+
+pub not-both : {A : Type 0} {b : Bool} → b ≡ true → b ≡ false → A
+not-both e f = absurd (true≢false (sym e ∙ f))
+
+module _ {A : Type 0} (test : A → Bool) (d : A) (out : test d ≡ false) where
+  -- Some record passes exactly where a place does.
+  pub any-place : (xs : List A) → any test xs ≡ true → (n : ℕ) × (test (at xs n d) ≡ true)
+  any-place [] e = absurd (false≢true e)
+  any-place (x ∷ xs) e = go (test x) refl (any-place xs)
+    where
+      go : (b : Bool) → test x ≡ b → (any test xs ≡ true → (n : ℕ) × (test (at xs n d) ≡ true))
+          → (n : ℕ) × (test (at (x ∷ xs) n d) ≡ true)
+      go true p again = (1, p)
+      go false p again = later (again (rw p at e))
+        where
+          later : (n : ℕ) × (test (at xs n d) ≡ true) → (n : ℕ) × (test (at (x ∷ xs) n d) ≡ true)
+          later (zero, q) = not-both q out
+          later (suc n, q) = (suc (suc n), q)
+
+  pub place-any : (xs : List A) (n : ℕ) → test (at xs n d) ≡ true → any test xs ≡ true
+  place-any xs zero e = not-both e out
+  place-any [] (suc n) e = not-both e out
+  place-any (x ∷ xs) (suc zero) e = rw e
+  place-any (x ∷ xs) (suc (suc n)) e = go (test x) (place-any xs (suc n) e)
+    where
+      go : (b : Bool) → any test xs ≡ true → (b || any test xs) ≡ true
+      go true p = refl
+      go false p = p
+
+  -- Those that pass are kept: one or more exactly where some record passes,
+  pub keep-any : (xs : List A) → 1 ≤ length (keep test xs) → any test xs ≡ true
+  keep-any [] l = absurd (not-suc-le-zero l)
+  keep-any (x ∷ xs) l = go (test x) (keep-any xs) l
+    where
+      go : (b : Bool) → (1 ≤ length (keep test xs) → any test xs ≡ true)
+          → 1 ≤ length (if b then x ∷ keep test xs else keep test xs) → (b || any test xs) ≡ true
+      go true again l = refl
+      go false again l = again l
+
+  pub any-keep : (xs : List A) → any test xs ≡ true → 1 ≤ length (keep test xs)
+  any-keep [] e = absurd (false≢true e)
+  any-keep (x ∷ xs) e = go (test x) (any-keep xs) e
+    where
+      go : (b : Bool) → (any test xs ≡ true → 1 ≤ length (keep test xs))
+          → (b || any test xs) ≡ true → 1 ≤ length (if b then x ∷ keep test xs else keep test xs)
+      go true again e = omega arith
+      go false again e = again e
+
+  none-kept : (xs : List A) → ((n : ℕ) → test (at xs n d) ≡ true → n ≡ 0) → keep test xs ≡ []
+  none-kept xs h = go (keep test xs) refl
+    where
+      go : (ys : List A) → keep test xs ≡ ys → ys ≡ []
+      go [] e = refl
+      go (y ∷ ys) e = here (any-place xs (keep-any xs (rw e (omega arith))))
+        where
+          here : (n : ℕ) × (test (at xs n d) ≡ true) → (y ∷ ys) ≡ []
+          here (n, p) = not-both (rw (h n p) at p) out
+
+  -- The test passes at this place and at no other.
+  pub record OnlyAt (xs : List A) (n : ℕ) : Type 0 where
+    pub passes : test (at xs n d) ≡ true
+    pub only : (k : ℕ) → test (at xs k d) ≡ true → k ≡ n
+
+  -- Exactly one is kept where it passes at one place only.
+  pub only-kept : (xs : List A) (n : ℕ) → OnlyAt xs n → keep test xs ≡ at xs n d ∷ []
+  only-kept xs zero o = not-both (o .passes) out
+  only-kept [] (suc n) o = not-both (o .passes) out
+  only-kept (x ∷ xs) (suc zero) o = rw (o .passes) (ap (λ (ys : List A). x ∷ ys) (none-kept xs none))
+    where
+      none : (k : ℕ) → test (at xs k d) ≡ true → k ≡ 0
+      none zero p = refl
+      none (suc k) p = omega (arith, o .only (suc (suc k)) p)
+  only-kept (x ∷ xs) (suc (suc n)) o = go (test x) refl (only-kept xs (suc n) its)
+    where
+      its : OnlyAt xs (suc n)
+      its = record { passes = o .passes; only = others }
+        where
+          others : (k : ℕ) → test (at xs k d) ≡ true → k ≡ suc n
+          others zero p = not-both p out
+          others (suc k) p = omega (arith, o .only (suc (suc k)) p)
+
+      go : (b : Bool) → test x ≡ b → keep test xs ≡ at xs (suc n) d ∷ []
+          → (if b then x ∷ keep test xs else keep test xs) ≡ at xs (suc n) d ∷ []
+      go true p again = absurd (omega (arith, o .only 1 p))
+      go false p again = again
+
+  pub kept-only : (xs : List A) (y : A) → keep test xs ≡ y ∷ []
+      → (n : ℕ) × (at xs n d ≡ y) × OnlyAt xs n
+  kept-only [] y e = let z : _≡_ {A = ℕ} 0 1 = cc in absurd (omega arith)
+  kept-only (x ∷ xs) y e = go (test x) refl e (kept-only xs y)
+    where
+      go : (b : Bool) → test x ≡ b → (if b then x ∷ keep test xs else keep test xs) ≡ y ∷ []
+          → (keep test xs ≡ y ∷ [] → (n : ℕ) × (at xs n d ≡ y) × OnlyAt xs n)
+          → (n : ℕ) × (at (x ∷ xs) n d ≡ y) × OnlyAt (x ∷ xs) n
+      go true p q again =
+          let none : keep test xs ≡ [] = cc in
+          let its : x ≡ y = cc in
+          (1, its, record { passes = p; only = others none })
+        where
+          others : keep test xs ≡ [] → (k : ℕ) → test (at (x ∷ xs) k d) ≡ true → k ≡ 1
+          others none zero r = not-both r out
+          others none (suc zero) r = refl
+          others none (suc (suc k)) r =
+              absurd (omega (arith, any-keep xs (place-any xs (suc k) r), ap length none))
+      go false p q again = later (again q)
+        where
+          later : (n : ℕ) × (at xs n d ≡ y) × OnlyAt xs n → (n : ℕ) × (at (x ∷ xs) n d ≡ y) × OnlyAt (x ∷ xs) n
+          later (zero, its, o) = not-both (o .passes) out
+          later (suc n, its, o) = (suc (suc n), its, record { passes = o .passes; only = others })
+            where
+              others : (k : ℕ) → test (at (x ∷ xs) k d) ≡ true → k ≡ suc (suc n)
+              others zero r = not-both r out
+              others (suc zero) r = not-both r p
+              others (suc (suc k)) r = ap suc (o .only (suc k) r)
 
 -- ## Numbers
 

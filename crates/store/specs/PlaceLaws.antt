@@ -6,12 +6,15 @@ use mathlib.Core.Logic.{_⊎_, inl, inr, _≢_}
 use mathlib.Core.Option.{none, some}
 use mathlib.Core.Path.{_≡_, refl, sym, _∙_, ap}
 use Prim.Native.Nat.{ℕ, zero, suc, _+_, _≤_, _<_}
-use native.Mathlib.Nat.{not-suc-le-zero, le-of-suc-le-suc}
+use native.Mathlib.Nat.{not-suc-le-zero, le-of-suc-le-suc, add-zero}
+use native.Mathlib.Numerals.{one-add}
 use native.Mathlib.Omega.{arith}
+use borrow.Author.Tests.{eqb-true, eqb-false}
+use lib.Dec.{eqb}
 use lib.ListN.{length, getD, length-set}
 use lib.Seq.{getD-set-same, getD-set-other, set-comm}
 use Rattle.slot.specs.If.{if_then_else_}
-use Rattle.store.specs.Lists.{at, put, lowest, first}
+use Rattle.store.specs.Lists.{at, put, numbered, lowest, first}
 
 -- ## A record at a place, and one put there
 
@@ -56,6 +59,35 @@ module _ {A : Type 0} where
   lowest-put test start (y ∷ ys) (suc (suc n)) x d h =
       ap (λ (p : ℕ). if test y then start else p) (lowest-put test (suc start) ys (suc n) x d h)
 
+pub same? : (m n : ℕ) → (m ≡ n) ⊎ (m ≢ n)
+same? m n = go (eqb m n) refl
+  where
+    go : (b : Bool) → eqb m n ≡ b → (m ≡ n) ⊎ (m ≢ n)
+    go true e = inl (eqb-true m n e)
+    go false e = inr (eqb-false m n e)
+
+-- What stands at place k after x is put at place n: x there, and elsewhere what stood before.
+pub data AfterPut {A : Type 0} (n k : ℕ) (x before now : A) : Type 0 where
+  here : k ≡ n → now ≡ x → AfterPut n k x before now
+  elsewhere : k ≢ n → now ≡ before → AfterPut n k x before now
+
+pub after-put : {A : Type 0} (xs : List A) (n : ℕ) (x d : A) → 1 ≤ n → n ≤ length xs
+    → (k : ℕ) → AfterPut n k x (at xs k d) (at (put xs n x) k d)
+after-put xs n x d low high k = go (same? k n)
+  where
+    go : (k ≡ n) ⊎ (k ≢ n) → AfterPut n k x (at xs k d) (at (put xs n x) k d)
+    go (inl e) = here e (rw e (at-put-same xs n x d low high))
+    go (inr e) = elsewhere e (at-put-other xs n k x d e)
+
+module _ {A : Type 0} {x before now : A} where
+  pub put-here : {n : ℕ} → AfterPut n n x before now → now ≡ x
+  put-here (here e q) = q
+  put-here (elsewhere e q) = absurd (e refl)
+
+  pub put-elsewhere : {n k : ℕ} → k ≢ n → AfterPut n k x before now → now ≡ before
+  put-elsewhere h (here e q) = absurd (h e)
+  put-elsewhere h (elsewhere e q) = q
+
 -- ## Each record changed
 
 -- A change that leaves d as it is acts place by place.
@@ -65,6 +97,19 @@ at-map f xs zero d e = sym e
 at-map f [] (suc n) d e = sym e
 at-map f (x ∷ xs) (suc zero) d e = refl
 at-map f (x ∷ xs) (suc (suc n)) d e = at-map f xs (suc n) d e
+
+-- The same of a change that sees the place too.
+map-from : {A : Type 0} (f : ℕ × A → A) (start : ℕ) (xs : List A) (k : ℕ) (d : A) → ((n : ℕ) → f (n, d) ≡ d)
+    → getD (map f (numbered start xs)) k d ≡ f (start + k, getD xs k d)
+map-from f start [] k d e = sym (e (start + k))
+map-from f start (x ∷ xs) zero d e = rw add-zero
+map-from f start (x ∷ xs) (suc k) d e =
+    map-from f (suc start) xs k d e ∙ ap (λ (n : ℕ). f (n, getD xs k d)) (omega arith)
+
+pub at-map-numbered : {A : Type 0} (f : ℕ × A → A) (xs : List A) (n : ℕ) (d : A) → ((k : ℕ) → f (k, d) ≡ d)
+    → at (map f (numbered 1 xs)) n d ≡ f (n, at xs n d)
+at-map-numbered f xs zero d e = sym (e 0)
+at-map-numbered f xs (suc k) d e = rw one-add at (map-from f 1 xs k d e)
 
 -- ## Positions, the first of them 0
 

@@ -1,0 +1,191 @@
+-- The rules for unique shapes: the model stays sound, and every shape but the one acted on is kept.
+-- Assumes nothing.
+use mathlib.Core.Bool.{true, false, and-false}
+use mathlib.Core.List.{List, []}
+use mathlib.Core.Logic.{inl, inr}
+use mathlib.Core.Path.{_≡_, refl, sym, _∙_, ap}
+use Prim.Native.Nat.{ℕ, _+_, _≤_}
+use native.Mathlib.Omega.{arith}
+use borrow.Author.Tests.{eqb-false}
+use lib.Dec.{eqb}
+use lib.ListN.{length}
+use lib.Seq.{take-all}
+use Rattle.slot.specs.Attributes.{goodAttributes, sameWidth}
+use Rattle.store.specs.Model.{used, Model, shapeAt, tableAt, putShape, putTable}
+use Rattle.store.specs.ListLaws.{and-both, Decided, either, not-both}
+use Rattle.store.specs.declared.Shape.{Shape}
+use Rattle.store.specs.declared.Entry.{Entry}
+use Rattle.rules.specs.declared.Refusal.the-variants.{KeysFull}
+use Rattle.rules.specs.Numbers.{goodKey}
+use Rattle.rules.specs.Shapes.{
+  has,
+  attributesIn,
+  appended,
+  configured,
+  without,
+  laid,
+  shared,
+  unique,
+  tableOf,
+  entries,
+  uniqueShape,
+  withProperties,
+}
+use Rattle.rules.specs.Refusals.{ok}
+use Rattle.rules.specs.Settled.{guard-passed, same-given}
+use Rattle.rules.specs.Steps.{Placed}
+use Rattle.rules.specs.Sound.{goodEntries}
+use Rattle.rules.specs.Unique.{emptied, replaced, insertUnique, removeUnique, changeUnique, prototypeUnique}
+use Rattle.theorems.specs.Facts.{Used, GoodTable, Sound, unique-used, used-table, shared-not-unique}
+use Rattle.theorems.specs.Entries.{
+  good-appended,
+  length-appended,
+  good-configured,
+  length-configured,
+  good-changed,
+  good-without,
+  length-without,
+  length-laid,
+}
+use Rattle.theorems.specs.Frame.{Keeps, keeps-again, kept-used, kept-self}
+use Rattle.theorems.specs.Grow.{FreshShape, fresh-keeps, fresh-unique}
+use Rattle.theorems.specs.Retabled.{Others, retabled-keeps, table-put, both-put}
+
+module _ (m : Model) (sound : Sound m) (n : ℕ) (isUnique : unique (shapeAt m n) ≡ true) where
+  abbrev s : Shape
+  s = shapeAt m n
+
+  abbrev es : List Entry
+  es = entries m (shapeAt m n)
+
+  is-used : Used m n
+  is-used = unique-used s isUnique
+
+  -- All its table's entries are its own.
+  whole : es ≡ tableOf m s
+  whole =
+      let all = sound .shapes n is-used .uniqueWhole isUnique in
+      take-all (s .properties) (tableOf m s) (omega arith)
+
+  count : s .properties ≡ length es
+  count = sound .shapes n is-used .uniqueWhole isUnique ∙ ap length (sym whole)
+
+  good : GoodTable (m .K) es
+  good =
+      let its = used-table (tableAt m (s .table)) (sound .shapes n is-used .tableUsed) in
+      rw whole (sound .tables (s .table) (tableOf m s) its)
+
+  -- The same shape with another property count.
+  recounted : (c long : ℕ) → c ≡ long → FreshShape (withProperties s c) (s .table) long
+  recounted c long q =
+      let w = sound .shapes n is-used .words in
+      let l = sound .shapes n is-used .limits in
+      let z = w .unique isUnique in
+      record {
+        words = record {
+          state = inr isUnique;
+          step = w .step;
+          transitions = w .transitions;
+          root = λ r. not-both isUnique (shared-not-unique s (and-both (shared s) r .0));
+          unique = λ r. record { previous = z .previous; step = z .step; transitions = z .transitions };
+        };
+        limits = record {
+          unheld = l .unheld;
+          holds = l .holds;
+          property = l .property;
+          prototype = l .prototype;
+          unique = l .unique;
+        };
+        itsTable = refl;
+        whole = q;
+        noChild = rw (z .previous) (and-false (shared s));
+      }
+
+  -- "Insert and equal-width change act on the same number."
+  pub insert-unique-keeps : (k a : ℕ) → goodKey k ≡ true → goodAttributes a ≡ true → has k es ≡ false
+      → (y : Placed) → insertUnique m n k a ≡ ok y → Keeps m (y .0) (Others m n)
+  unfolding insertUnique
+  insert-unique-keeps k a key low absent y e =
+      let (few, given) = guard-passed KeysFull (eqb (s .properties) (m .K)) _ y e in
+      let less = eqb-false (s .properties) (m .K) few in
+      let long = count in
+      let fit = good .room in
+      let fs = appended es k a in
+      let known : GoodTable (m .K) fs = record {
+        good = good-appended es k a (good .good) key low absent;
+        room = omega (arith, length-appended es k a);
+      } in
+      let fit = recounted (s .properties + 1) (length fs) (omega (arith, length-appended es k a)) in
+      let r = both-put m sound n isUnique fs known (withProperties s (s .properties + 1)) isUnique fit in
+      rw (← same-given given, ← whole) (retabled-keeps m _ sound n fs r)
+
+  pub change-same-keeps : (k a : ℕ) → goodAttributes a ≡ true → sameWidth (attributesIn k es) a ≡ true
+      → Keeps m (putTable m (s .table) (used (configured es k a))) (Others m n)
+  change-same-keeps k a low wide =
+      let fit = good .room in
+      let long = count in
+      let same = length-configured es k a in
+      let known : GoodTable (m .K) (configured es k a) = record {
+        good = good-configured es k a (good .good) low wide;
+        room = omega arith;
+      } in
+      retabled-keeps m _ sound n _ (table-put m sound n isUnique (configured es k a) known (omega arith))
+
+  -- "the old one keeps its number with no keys"
+  pub emptied-keeps : (p : ℕ) → Keeps m (emptied m n p) (Others m n)
+  unfolding emptied
+  emptied-keeps p =
+      let held = sound .shapes n is-used .limits .holds in
+      let none : GoodTable (m .K) [] = record { good = refl; room = omega arith } in
+      let fit = fresh-unique (s .holds) 0 p (s .table) held in
+      let r = both-put m sound n isUnique [] none (uniqueShape (s .holds) 0 p (s .table)) refl fit in
+      retabled-keeps m _ sound n [] r
+
+  emptied-room : (p : ℕ) → emptied m n p .K ≡ m .K
+  unfolding emptied putShape putTable
+  emptied-room p = refl
+
+  -- "Removal and width change give a new shape", and so does a change of prototype.
+  replaced-keeps : (p q : ℕ) (fs : List Entry) → goodEntries fs ≡ true → length fs ≤ length es
+      → (y : Placed) → replaced (emptied m n p) q fs ≡ ok y → Keeps m (y .0) (Others m n)
+  replaced-keeps p q fs known few y e =
+      let first = emptied-keeps p in
+      let fit = good .room in
+      let table : GoodTable (m .K) fs = record { good = known; room = omega arith } in
+      let next = fresh-keeps (emptied m n p) (first .isSound) (uniqueShape 0 (length fs) q) fs
+      (λ t. fresh-unique 0 (length fs) q t (omega arith)) (rw (emptied-room p) table) y e in
+      keeps-again first (λ k o kept. kept-used (o .0) kept) (next .keeps)
+
+  pub remove-unique-keeps : (k : ℕ) (y : Placed) → removeUnique m n k ≡ ok y → Keeps m (y .0) (Others m n)
+  unfolding removeUnique
+  remove-unique-keeps k y e = go (either (has k es))
+    where
+      fs : List Entry
+      fs = laid 0 (without es k)
+
+      short : length fs ≤ length es
+      short = omega (arith, length-laid 0 (without es k), length-without es k)
+
+      go : Decided (has k es) → Keeps m (y .0) (Others m n)
+      go (inl q) = replaced-keeps 0 (s .prototype) fs (good-without es k (good .good)) short y (rw q at e)
+      go (inr q) =
+          rw (← same-given (rw q at e)) record { isSound = sound; keeps = λ x p. kept-self m x }
+
+  pub change-unique-keeps : (k a : ℕ) → goodAttributes a ≡ true
+      → (y : Placed) → changeUnique m n k a ≡ ok y → Keeps m (y .0) (Others m n)
+  unfolding changeUnique
+  change-unique-keeps k a low y e = go (either (sameWidth (attributesIn k es) a))
+    where
+      fs : List Entry
+      fs = laid 0 (configured es k a)
+
+      short : length fs ≤ length es
+      short = omega (arith, length-laid 0 (configured es k a), length-configured es k a)
+
+      go : Decided (sameWidth (attributesIn k es) a) → Keeps m (y .0) (Others m n)
+      go (inl q) = rw (← same-given (rw q at e)) (change-same-keeps k a low q)
+      go (inr q) = replaced-keeps 0 (s .prototype) fs (good-changed es k a (good .good) low) short y (rw q at e)
+
+  pub prototype-unique-keeps : (p : ℕ) (y : Placed) → prototypeUnique m n p ≡ ok y → Keeps m (y .0) (Others m n)
+  unfolding prototypeUnique
+  prototype-unique-keeps p y e = replaced-keeps (s .prototype) p es (good .good) (omega arith) y e

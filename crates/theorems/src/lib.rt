@@ -1,0 +1,1 @@
+// Theorems over the definitions of `rules`. They stand in specs/; there is no code.
