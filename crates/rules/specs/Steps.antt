@@ -55,13 +55,30 @@ stepKind (configure k a) = 1
 stepKind (prototype p) = 2
 
 -- "Edge: parent, kind (0 property, 1 prototype), key or prototype, attributes (0 for prototype), child"
-abbrev pub edgeOf : (parent : ℕ) → Step → (child : ℕ) → Edge
-edgeOf n (insert k a) c = record { parent = n; kind = 0; label = k; attributes = a; child = c }
-edgeOf n (configure k a) c = record { parent = n; kind = 0; label = k; attributes = a; child = c }
-edgeOf n (prototype p) c = record { parent = n; kind = 1; label = p; attributes = 0; child = c }
-
 abbrev pub edgeKind : Step → ℕ
-edgeKind t = edgeOf 0 t 0 .kind
+edgeKind (insert k a) = 0
+edgeKind (configure k a) = 0
+edgeKind (prototype p) = 1
+
+abbrev pub edgeLabel : Step → ℕ
+edgeLabel (insert k a) = k
+edgeLabel (configure k a) = k
+edgeLabel (prototype p) = p
+
+abbrev pub edgeAttributes : Step → ℕ
+edgeAttributes (insert k a) = a
+edgeAttributes (configure k a) = a
+edgeAttributes (prototype p) = 0
+
+abbrev pub edgeOf : (parent : ℕ) → Step → (child : ℕ) → Edge
+edgeOf n t c =
+    record {
+      parent = n;
+      kind = edgeKind t;
+      label = edgeLabel t;
+      attributes = edgeAttributes t;
+      child = c;
+    }
 
 -- "insert adds an absent key at the end, configure sets a held key's attributes at equal width,
 -- prototype changes only the prototype"
@@ -219,7 +236,7 @@ remember s [] = if prototypeStep s then prototype (s .prototype) ∷ [] else []
 remember s (newest ∷ older) = newest ∷ older
 
 abbrev pub sameKey : ℕ → Step → Bool
-sameKey k t = eqb (edgeOf 0 t 0 .label) k
+sameKey k t = eqb (edgeLabel t) k
 
 -- "Every other shape yields its last key (not the configured one) with its attributes there;
 -- a key's first yield counts; the key itself is skipped."

@@ -99,50 +99,15 @@ withTables m ts = record { K = m .K; shapes = m .shapes; tables = ts; edges = m 
 
 -- ## The edge of a step
 
-pub record EdgeIs (n : ℕ) (t : Step) (c : ℕ) (e : Edge) : Type 0 where
-  pub parent : e .parent ≡ n
-  pub child : e .child ≡ c
-  pub kind : e .kind ≤ 1
-  pub itsStep : stepOf (stepKind t) e ≡ t
-  pub itsKind : edgeKind t ≡ e .kind
-  pub itsLabel : (es : List Entry) → goodLabel es e ≡ goodLabel es (edgeOf n t 0)
-  pub cutOff : deadened e ≡ edgeOf n t 0
-  pub stepLow : stepKind t ≤ 2
+step-of : (n : ℕ) (t : Step) (c : ℕ) → stepOf (stepKind t) (edgeOf n t c) ≡ t
+step-of n (insert k a) c = refl
+step-of n (configure k a) c = refl
+step-of n (prototype p) c = refl
 
-pub edge-is : (n : ℕ) (t : Step) (c : ℕ) → EdgeIs n t c (edgeOf n t c)
-edge-is n (insert k a) c =
-    record {
-      parent = refl;
-      child = refl;
-      kind = omega arith;
-      itsStep = refl;
-      itsKind = refl;
-      itsLabel = λ es. refl;
-      cutOff = refl;
-      stepLow = omega arith;
-    }
-edge-is n (configure k a) c =
-    record {
-      parent = refl;
-      child = refl;
-      kind = omega arith;
-      itsStep = refl;
-      itsKind = refl;
-      itsLabel = λ es. refl;
-      cutOff = refl;
-      stepLow = omega arith;
-    }
-edge-is n (prototype p) c =
-    record {
-      parent = refl;
-      child = refl;
-      kind = omega arith;
-      itsStep = refl;
-      itsKind = refl;
-      itsLabel = λ es. refl;
-      cutOff = refl;
-      stepLow = omega arith;
-    }
+kinds-low : (t : Step) → (stepKind t ≤ 2) × (edgeKind t ≤ 1)
+kinds-low (insert k a) = omega arith
+kinds-low (configure k a) = omega arith
+kinds-low (prototype p) = omega arith
 
 -- ## The child
 
@@ -220,16 +185,15 @@ module _ (m : Model) (sound : Sound m) (n : ℕ) (t : Step) (ready : Ready m n t
 
   child-sound : ChildSound j c x s
   child-sound =
-      let is = edge-is n t c in
       let its = put-here (edge-at e) in
       record {
         previousShared = ready .legal .isShared;
         oneMore = refl;
         edge = e;
-        leadsHere = rw its (is .child);
+        leadsHere = rw its;
         onlyEdge = only-edge;
-        fromPrevious = rw its (is .parent);
-        stepped = rw (its, is .itsStep, parent-entries, its-table, laid .stepped)
+        fromPrevious = rw its;
+        stepped = rw (its, step-of n t c, parent-entries, its-table, laid .stepped)
             (leads-on t (entries m s) (s .prototype) (ready .legal .may));
       }
 
@@ -239,7 +203,7 @@ module _ (m : Model) (sound : Sound m) (n : ℕ) (t : Step) (ready : Ready m n t
       record {
         words = record {
           state = inl refl;
-          step = edge-is n t c .stepLow;
+          step = kinds-low t .0;
           transitions = omega arith;
           root = λ r. absurd (used-place m n parent-used (eqb-true n 0 r));
           unique = λ r. absurd (false≢true r);
@@ -260,16 +224,15 @@ module _ (m : Model) (sound : Sound m) (n : ℕ) (t : Step) (ready : Ready m n t
 
   edge-sound : EdgeSound j y
   edge-sound =
-      let is = edge-is n t c in
       let its = put-here (shape-at c) in
       record {
-        parentShared = rw (is .parent, parent-same) (ready .legal .isShared);
-        kind = is .kind;
-        label = rw (is .parent, parent-same, parent-entries) (is .itsLabel (entries m s) ∙ ready .legal .label);
-        child = λ ne. rw (is .child, its) record {
+        parentShared = rw parent-same (ready .legal .isShared);
+        kind = kinds-low t .1;
+        label = rw (parent-same, parent-entries) (ready .legal .label);
+        child = λ ne. rw its record {
           isShared = refl;
-          previous = sym (is .parent);
-          kindFits = rw (is .itsStep) (is .itsKind);
+          previous = refl;
+          kindFits = rw (step-of n t c);
         };
       }
 
@@ -278,9 +241,7 @@ module _ (m : Model) (sound : Sound m) (n : ℕ) (t : Step) (ready : Ready m n t
     where
       go : AfterPut e f y (edgeAt m f) (edgeAt j f) → f ≡ e
       go (here q z) = q
-      go (elsewhere q z) =
-          let cutOff = edge-is n t c .cutOff in
-          absurd (ready .noEdge f (ap deadened (sym cutOff) ∙ l ∙ ap deadened z))
+      go (elsewhere q z) = absurd (ready .noEdge f (l ∙ ap deadened z))
 
   an-edge : (k : ℕ) → (edgeAt j k ≡ edgeAt m k) ⊎ NewEdge m j c k
   an-edge k = go (edge-at k)
@@ -290,7 +251,7 @@ module _ (m : Model) (sound : Sound m) (n : ℕ) (t : Step) (ready : Ready m n t
           let its = put-here (edge-at e) in
           record {
             wasFree = edge-free;
-            leadsTo = rw its (edge-is n t c .child);
+            leadsTo = rw its;
             isSound = rw its edge-sound;
             unlike = λ f l. unlike f (sym (ap deadened its) ∙ l);
           }

@@ -2,7 +2,7 @@
 -- Assumes nothing.
 use mathlib.Core.Bool.{true}
 use mathlib.Core.Logic.{_⊎_, inl, inr}
-use mathlib.Core.Path.{_≡_, sym, _∙_, ap}
+use mathlib.Core.Path.{_≡_, _∙_, ap}
 use Prim.Native.Nat.{ℕ}
 use native.Mathlib.Omega.{arith}
 use Rattle.store.specs.Model.{Model, noEdge, freeShape, shapeAt, edgeAt}
@@ -15,13 +15,13 @@ use Rattle.rules.specs.Steps.{Step, edgeOf, edgeKind, stepEntries, Placed, chil
 use Rattle.theorems.specs.Facts.{Used, Alike, Sound, shared-used, used-place}
 use Rattle.theorems.specs.Frame.{Keeps, keeps-again, kept-used, kept-shared}
 use Rattle.theorems.specs.Prunes.{counted-keeps, FewerEdges, counted-fewer}
-use Rattle.theorems.specs.Child.{Legal, Ready, Grown, edge-is}
+use Rattle.theorems.specs.Child.{Legal, Ready, Grown}
 use Rattle.theorems.specs.Laying.{grow-keeps}
 
 -- The edge of a step from a shape in use is no free one.
 pub edge-not-free : (m : Model) (n : ℕ) (t : Step) → Used m n → Alike (edgeOf n t 0) noEdge → ⊥
 edge-not-free m n t u l =
-    used-place m n u (sym (edge-is n t 0 .parent) ∙ ap (λ (x : Edge). x .parent) l)
+    used-place m n u (ap (λ (x : Edge). x .parent) l)
 
 module _ (m j : Model) (keeps : Keeps m j (Used m)) (n : ℕ) (t : Step) where
   pub legal-again : Legal m n t → Legal j n t

@@ -45,7 +45,7 @@ use Rattle.theorems.specs.TestsSay.{alike-is, is-alike}
 use Rattle.theorems.specs.Entries.{led-to}
 use Rattle.theorems.specs.Frame.{Keeps, kept-self}
 use Rattle.theorems.specs.Prunes.{pruned-keeps, pruned-edge}
-use Rattle.theorems.specs.Child.{Legal, Ready, Grown, edge-is}
+use Rattle.theorems.specs.Child.{Legal, Ready, Grown}
 use Rattle.theorems.specs.Makes.{edge-not-free, legal-again, grown-again, make-keeps}
 
 -- What a step leaves: a child of n with the keys, attributes and prototype that the step leads to.
@@ -124,7 +124,7 @@ module _ (m : Model) (sound : Sound m) (n : ℕ) (t : Step) (legal : Legal m n t
       let c = shapeAt m (x .child) in
       let to = sound .edges e (edge-used e l) .child live in
       let used = shared-used c (to .isShared) in
-      let parent : x .parent ≡ n = sym (ap (λ (y : Edge). y .parent) l) ∙ edge-is n t 0 .parent in
+      let parent : x .parent ≡ n = sym (ap (λ (y : Edge). y .parent) l) in
       let previous = to .previous ∙ parent in
       let some = ne-eqb (c .previous) 0 (λ z. used-place m n is-used (sym previous ∙ z)) in
       let k = sound .shapes (x .child) used .child (both-and (to .isShared) (rw some)) in
@@ -162,9 +162,9 @@ module _ (m : Model) (sound : Sound m) (n : ℕ) (t : Step) (legal : Legal m n t
       its-dead : dead n (edgeKind t) (edgeAt m e) ≡ true
       its-dead =
           let x = edgeAt m e in
-          let parent : x .parent ≡ n = sym (ap (λ (y : Edge). y .parent) l) ∙ edge-is n t 0 .parent in
+          let parent : x .parent ≡ n = sym (ap (λ (y : Edge). y .parent) l) in
           let kind : x .kind ≡ edgeKind t
-          = sym (ap (λ (y : Edge). y .kind) l) ∙ sym (edge-is n t 0 .itsKind) in
+          = sym (ap (λ (y : Edge). y .kind) l) in
           both-and (both-and (eq-eqb _ _ parent) (eq-eqb _ _ kind)) (eq-eqb _ _ gone)
 
       unlike : (f : ℕ) → Alike (edgeOf n t 0) (edgeAt (pruned m n (edgeKind t)) f) → ⊥
