@@ -8,11 +8,11 @@ use Prim.Native.Nat.{ℕ, zero, suc, _+_, _≤_}
 use native.Mathlib.Nat.{not-suc-le-zero, add-zero, add-suc, suc-add}
 use native.Mathlib.Numerals.{one-add}
 use native.Mathlib.Omega.{arith}
-use borrow.Author.Tests.{eqb-true, eq-eqb}
+use borrow.Author.Tests.{eqb-true, eqb-false, eq-eqb, ne-eqb}
 use lib.Dec.{eqb}
-use lib.ListN.{length, getD, replicate}
+use lib.ListN.{length, getD, replicate, length-append}
 use Rattle.slot.specs.If.{if_then_else_}
-use Rattle.store.specs.Lists.{at, numbered, keep, every, any, all, agree, zeros}
+use Rattle.store.specs.Lists.{at, numbered, keep, every, any, last, all, agree, zeros}
 use Rattle.store.specs.PlaceLaws.{at-tail}
 
 -- ## Tests that pass
@@ -40,6 +40,11 @@ not-then false e f = absurd (false≢true f)
 pub then-not : (a : Bool) {b : Bool} → (a ≡ true → b ≡ true) → (not a || b) ≡ true
 then-not true h = h refl
 then-not false h = refl
+
+-- Neither of two tests passes.
+pub or-none : (a : Bool) {b : Bool} → (a || b) ≡ false → (a ≡ false) × (b ≡ false)
+or-none true e = absurd (true≢false e)
+or-none false e = (refl, e)
 
 -- Each test of a list has passed.
 abbrev pub Passed : List Bool → Type 0
@@ -85,6 +90,27 @@ module _ {A : Type 0} (test : A → Bool) where
   pub every-map : {B : Type 0} (f : B → A) (xs : List B) → every test (map f xs) ≡ every (λ x. test (f x)) xs
   every-map f [] = refl
   every-map f (x ∷ xs) = ap (λ (b : Bool). test (f x) && b) (every-map f xs)
+
+  pub keep-append : (xs ys : List A) → keep test (xs ++ ys) ≡ keep test xs ++ keep test ys
+  keep-append [] ys = refl
+  keep-append (x ∷ xs) ys = go (test x) (keep-append xs ys)
+    where
+      go : (b : Bool) → keep test (xs ++ ys) ≡ keep test xs ++ keep test ys
+          → (if b then x ∷ keep test (xs ++ ys) else keep test (xs ++ ys))
+          ≡ (if b then x ∷ keep test xs else keep test xs) ++ keep test ys
+      go true again = ap (λ (zs : List A). x ∷ zs) again
+      go false again = again
+
+  pub keep-map : {B : Type 0} (f : B → A) (xs : List B)
+      → keep test (map f xs) ≡ map f (keep (λ x. test (f x)) xs)
+  keep-map f [] = refl
+  keep-map {B} f (x ∷ xs) = go (test (f x)) (keep-map f xs)
+    where
+      go : (b : Bool) → keep test (map f xs) ≡ map f (keep (λ x. test (f x)) xs)
+          → (if b then f x ∷ keep test (map f xs) else keep test (map f xs))
+          ≡ map f (if b then x ∷ keep (λ x. test (f x)) xs else keep (λ x. test (f x)) xs)
+      go true again = ap (λ (zs : List A). f x ∷ zs) again
+      go false again = again
 
 -- A test that x passes at every place passes all of them.
 pub every-same : {A : Type 0} (test : ℕ × A → Bool) (x : A) → ((place : ℕ) → test (place, x) ≡ true)
@@ -296,6 +322,13 @@ zeros→replicate [] e = refl
 zeros→replicate (n ∷ ns) e =
     let p = and-both (eqb 0 n) e in ap₂ _∷_ (sym (eqb-true 0 n (p .0))) (zeros→replicate ns (p .1))
 
+pub eqb-sym : (m n : ℕ) → eqb m n ≡ eqb n m
+eqb-sym m n = go (eqb m n) refl
+  where
+    go : (b : Bool) → eqb m n ≡ b → b ≡ eqb n m
+    go true e = sym (eq-eqb n m (sym (eqb-true m n e)))
+    go false e = sym (ne-eqb n m (λ q. eqb-false m n e (sym q)))
+
 -- ## Maps
 
 -- What g takes back of each record, it takes back of a list.
@@ -303,3 +336,34 @@ pub map-back : {A B : Type 0} (f : A → B) (g : B → A) → ((x : A) → g (f 
     → (xs : List A) → map g (map f xs) ≡ xs
 map-back f g h [] = refl
 map-back f g h (x ∷ xs) = ap₂ _∷_ (h x) (map-back f g h xs)
+
+-- ## The last of a list
+
+pub every-last : {A : Type 0} (test : A → Bool) (xs : List A) (d : A) → every test xs ≡ true → test d ≡ true
+    → test (last xs d) ≡ true
+every-last test [] d e out = out
+every-last test (x ∷ xs) d e out = let p = and-both (test x) e in every-last test xs x (p .1) (p .0)
+
+pub last-map : {A B : Type 0} (f : A → B) (xs : List A) (d : A) → last (map f xs) (f d) ≡ f (last xs d)
+last-map f [] d = refl
+last-map f (x ∷ xs) d = last-map f xs x
+
+pub last-append : {A : Type 0} (xs : List A) (x d : A) → last (xs ++ x ∷ []) d ≡ x
+last-append [] x d = refl
+last-append (y ∷ xs) x d = last-append xs x y
+
+-- A list that is not empty ends with its last.
+pub front-last : {A : Type 0} (x : A) (xs : List A) → (front : List A) × (x ∷ xs ≡ front ++ last xs x ∷ [])
+front-last x [] = ([], refl)
+front-last {A} x (y ∷ xs) = let (front, e) = front-last y xs in (x ∷ front, ap (λ (ys : List A). x ∷ ys) e)
+
+-- Lists that end with one more are the same in both parts.
+pub same-ends : {A : Type 0} (xs ys : List A) (a b : A) → xs ++ a ∷ [] ≡ ys ++ b ∷ [] → (xs ≡ ys) × (a ≡ b)
+same-ends [] [] a b h = (refl, cc)
+same-ends [] (y ∷ ys) a b h = absurd (omega (arith, ap length h, length-append ys (b ∷ [])))
+same-ends (x ∷ xs) [] a b h = absurd (omega (arith, ap length h, length-append xs (a ∷ [])))
+same-ends (x ∷ xs) (y ∷ ys) a b h =
+    let rest : xs ++ a ∷ [] ≡ ys ++ b ∷ [] = cc in
+    let first : x ≡ y = cc in
+    let (others, end) = same-ends xs ys a b rest in
+    (ap₂ _∷_ first others, end)

@@ -1,19 +1,19 @@
 -- What the rules do to the entries of a table keeps them good; a slot index is the sum of the widths before it.
 -- Assumes nothing.
-use mathlib.Core.Bool.{Bool, true, false, _&&_, _||_, not, true≢false, false≢true}
+use mathlib.Core.Bool.{Bool, true, false, _&&_, _||_, not, false≢true}
 use mathlib.Core.List.{List, [], _∷_, _++_, map}
 use mathlib.Core.Path.{_≡_, refl, sym, _∙_, ap}
 use Prim.Native.Nat.{ℕ, zero, suc, _+_, _≤_, _<_}
 use native.Mathlib.Nat.{not-suc-le-zero, le-of-suc-le-suc}
 use native.Mathlib.Omega.{arith}
-use borrow.Author.Tests.{eqb-true, eqb-false, eq-eqb, ne-eqb, not-true}
+use borrow.Author.Tests.{eqb-true, eq-eqb, not-true}
 use lib.Dec.{eqb}
 use lib.ListN.{length, take, getD, length-append, length-map}
 use Rattle.slot.specs.If.{if_then_else_}
 use Rattle.slot.specs.Attributes.{goodAttributes, width, sameWidth}
 use Rattle.store.specs.Lists.{keep, every, any, agree}
 use Rattle.store.specs.Model.{noEntry}
-use Rattle.store.specs.ListLaws.{and-both, both-and, agree→≡, agree-self}
+use Rattle.store.specs.ListLaws.{and-both, both-and, or-none, agree→≡, agree-self, eqb-sym}
 use Rattle.store.specs.declared.Entry.{Entry}
 use Rattle.rules.specs.Numbers.{goodKey}
 use Rattle.rules.specs.Shapes.{
@@ -55,20 +55,9 @@ good-slots es h = and-both (distinct (keys es) && every goodEntry es) h .1
 pub make-good : {es : List Entry} → GoodKeys es → slotsFrom 0 es ≡ true → goodEntries es ≡ true
 make-good k s = both-and (both-and (k .differ) (k .each)) s
 
-eqb-sym : (a b : ℕ) → eqb a b ≡ eqb b a
-eqb-sym a b = go (eqb a b) refl
-  where
-    go : (x : Bool) → eqb a b ≡ x → x ≡ eqb b a
-    go true e = sym (eq-eqb b a (sym (eqb-true a b e)))
-    go false e = sym (ne-eqb b a (λ q. eqb-false a b e (sym q)))
-
 pub has-keys : (k : ℕ) (es : List Entry) → has k es ≡ any (eqb k) (keys es)
 has-keys k [] = refl
 has-keys k (e ∷ es) = rw (eqb-sym (e .key) k, has-keys k es)
-
-or-none : (a : Bool) {b : Bool} → (a || b) ≡ false → (a ≡ false) × (b ≡ false)
-or-none true h = absurd (true≢false h)
-or-none false h = (refl, h)
 
 -- The parts of the first entry, and of the others.
 key-apart : (e : Entry) (es : List Entry) → GoodKeys (e ∷ es) → has (e .key) es ≡ false

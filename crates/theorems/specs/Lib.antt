@@ -16,3 +16,8 @@ pub mod Retabled
 pub mod Uniques
 pub mod Sweeps
 pub mod Reached
+pub mod Made
+pub mod InTurn
+pub mod SameTrail
+pub mod Keys
+pub mod Rollback
