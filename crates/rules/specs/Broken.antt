@@ -12,21 +12,8 @@ use Rattle.store.specs.Layout.{flat, rows, words, parse, formatted}
 use Rattle.store.specs.Model.{Limits, blank}
 use Rattle.rules.specs.declared.Refusal.the-variants.{Damaged}
 use Rattle.rules.specs.Sound.{wordSentences, modelSentences, soundWords, sound}
-use Rattle.rules.specs.Calls.{
-  newRoot,
-  newUnique,
-  insertKey,
-  changeKey,
-  changePrototype,
-  hold,
-  release,
-  sweep,
-  Freed,
-  Done,
-  No,
-  Yes,
-  after,
-}
+use Rattle.rules.specs.Calls.{newRoot, newUnique, insertKey, changeKey, changePrototype, hold, release}
+use Rattle.rules.specs.Calls.{sweep, Freed, Done, No, Yes, after}
 use Rattle.rules.specs.Transcript.{Line, _⇒_, answers, gives, limits, a, b, c}
 use Rattle.rules.specs.Refused.{badKey, lastKey, calledOn}
 

@@ -14,17 +14,8 @@ use Rattle.store.specs.declared.Entry.{Entry}
 use Rattle.rules.specs.declared.ChangeTransitionAction.{ChangeTransitionAction}
 use Rattle.rules.specs.declared.ChangeTransitionAction.the-variants.{Nothing, Remove, Insert}
 use Rattle.rules.specs.declared.Refusal.{Refusal}
-use Rattle.rules.specs.declared.Refusal.the-variants.{
-  Damaged,
-  BadKey,
-  BadAttributes,
-  NoShape,
-  Present,
-  Absent,
-  HoldsFull,
-  BadSize,
-  OutShort,
-}
+use Rattle.rules.specs.declared.Refusal.the-variants.{Damaged, BadKey, BadAttributes, NoShape, Present}
+use Rattle.rules.specs.declared.Refusal.the-variants.{Absent, HoldsFull, BadSize, OutShort}
 use Rattle.rules.specs.Numbers.{goodKey}
 use Rattle.rules.specs.Shapes.{has, attributesIn, shared, entries, rootShape, uniqueShape, withHolds}
 use Rattle.rules.specs.Refusals.{Got, ok, refused, _>>=_, _>>_, refuse}

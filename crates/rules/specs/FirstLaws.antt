@@ -32,17 +32,8 @@ use Rattle.rules.specs.Sound.{soundModel, wordSentences, soundWords}
 use Rattle.rules.specs.Sweep.{found}
 use Rattle.rules.specs.Calls.{Call, lookup, Answer, Found, NotFound, unheld, slotOf, perform, Reply, No, Yes, call, callOn, formatting, format}
 use Rattle.rules.specs.Settled.{guard-passed, same-given, settle-refused, call-answered}
-use Rattle.store.specs.PlaceLaws.{
-  NoneBelow,
-  FirstAt,
-  FirstOrNone,
-  first-or-none,
-  lowest-first,
-  lowest-none,
-  first-found,
-  first-none,
-  at-map,
-}
+use Rattle.store.specs.PlaceLaws.{NoneBelow, FirstAt, FirstOrNone, first-or-none, lowest-first, lowest-none}
+use Rattle.store.specs.PlaceLaws.{first-found, first-none, at-map}
 
 -- ## A refusal changes nothing
 

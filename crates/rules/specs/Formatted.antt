@@ -14,28 +14,10 @@ use Rattle.store.specs.ThereAndBack.{parse-words, blank-words, fits-blank, laid
 use Rattle.store.specs.declared.Shape.{Shape}
 use Rattle.store.specs.declared.Edge.{Edge}
 use Rattle.rules.specs.declared.Refusal.the-variants.{BadSize}
-use Rattle.rules.specs.Sound.{
-  inRange,
-  tableInUse,
-  freeZero,
-  tablesGood,
-  tablesUsed,
-  countsFit,
-  rootsZero,
-  childrenLinked,
-  childrenStepped,
-  noTwoAlike,
-  edgesDiffer,
-  edgesGood,
-  transitionsLimited,
-  holdsLimited,
-  uniquesZero,
-  modelSentences,
-  soundModel,
-  wordSentences,
-  soundWords,
-  sound,
-}
+use Rattle.rules.specs.Sound.{inRange, tableInUse, freeZero, tablesGood, tablesUsed, countsFit}
+use Rattle.rules.specs.Sound.{rootsZero, childrenLinked, childrenStepped, noTwoAlike, edgesDiffer}
+use Rattle.rules.specs.Sound.{edgesGood, transitionsLimited, holdsLimited, uniquesZero, modelSentences}
+use Rattle.rules.specs.Sound.{soundModel, wordSentences, soundWords, sound}
 use Rattle.rules.specs.Calls.{Done, Yes, formatting, format}
 use Rattle.rules.specs.Settled.{guard-passed, same-given, settle-answered}
 

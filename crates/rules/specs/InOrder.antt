@@ -10,19 +10,8 @@ use lib.Dec.{eqb}
 use lib.ListN.{length}
 use Rattle.slot.specs.If.{if_then_else_}
 use Rattle.store.specs.Lists.{at, put}
-use Rattle.store.specs.Model.{
-  used,
-  Model,
-  noShape,
-  freeShape,
-  freeTable,
-  freeEdge,
-  shapeAt,
-  tableAt,
-  putShape,
-  putTable,
-  putEdge,
-}
+use Rattle.store.specs.Model.{used, Model, noShape, freeShape, freeTable, freeEdge, shapeAt, tableAt}
+use Rattle.store.specs.Model.{putShape, putTable, putEdge}
 use Rattle.store.specs.PlaceLaws.{at-put-same, at-put-other, at-inside, put-put, lowest-put}
 use Rattle.store.specs.declared.Counters.{Counters}
 use Rattle.store.specs.declared.Shape.{Shape}
@@ -31,27 +20,9 @@ use Rattle.store.specs.declared.Edge.{Edge}
 use Rattle.rules.specs.declared.Refusal.the-variants.{KeysFull, ShapesFull, TablesFull, EdgesFull}
 use Rattle.rules.specs.Refusals.{Got, ok, refused, _>>=_, _>>_, refuse, place}
 use Rattle.rules.specs.Shapes.{has, appended, configured, tableOf, entries, withCounters}
-use Rattle.rules.specs.Steps.{
-  Step,
-  insert,
-  configure,
-  prototype,
-  edgeOf,
-  edgeKind,
-  added,
-  prune,
-  counter,
-  setCounter,
-  putCounter,
-  pruned,
-  counted,
-  Placed,
-  copyTo,
-  childTable,
-  childShape,
-  grow,
-  make,
-}
+use Rattle.rules.specs.Steps.{Step, insert, configure, prototype, edgeOf, edgeKind, added, prune}
+use Rattle.rules.specs.Steps.{counter, setCounter, putCounter, pruned, counted, Placed, copyTo}
+use Rattle.rules.specs.Steps.{childTable, childShape, grow, make}
 use Rattle.rules.specs.FirstLaws.{place-given}
 
 -- ## The order of document 01

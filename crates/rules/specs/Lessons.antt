@@ -6,22 +6,8 @@ use Prim.Native.Nat.{ℕ}
 use Rattle.store.specs.Model.{blank}
 use Rattle.rules.specs.declared.ChangeTransitionAction.the-variants.{Remove, Insert}
 use Rattle.rules.specs.declared.Refusal.the-variants.{OutShort}
-use Rattle.rules.specs.Calls.{
-  newRoot,
-  newUnique,
-  insertKey,
-  changeKey,
-  removeKey,
-  changePrototype,
-  lookup,
-  keysInto,
-  prototypeOf,
-  Given,
-  Listed,
-  Number,
-  No,
-  Yes,
-}
+use Rattle.rules.specs.Calls.{newRoot, newUnique, insertKey, changeKey, removeKey, changePrototype}
+use Rattle.rules.specs.Calls.{lookup, keysInto, prototypeOf, Given, Listed, Number, No, Yes}
 use Rattle.rules.specs.Runner.{runnerLimits, lineCall, inputCalls, runner}
 use Rattle.rules.specs.Text.{bytes}
 use Rattle.rules.specs.Transcript.{Line, _⇒_, answers, expected, gives, at, nowhere, small, a, b, c, s, index5}

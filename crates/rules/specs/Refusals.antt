@@ -6,21 +6,9 @@ use Prim.Native.Nat.{ℕ}
 use lib.Dec.{eqb}
 use Rattle.store.specs.Lists.{lowest}
 use Rattle.rules.specs.declared.Refusal.{Refusal}
-use Rattle.rules.specs.declared.Refusal.the-variants.{
-  Damaged,
-  BadKey,
-  BadAttributes,
-  NoShape,
-  Present,
-  Absent,
-  KeysFull,
-  ShapesFull,
-  TablesFull,
-  EdgesFull,
-  HoldsFull,
-  BadSize,
-  OutShort,
-}
+use Rattle.rules.specs.declared.Refusal.the-variants.{Damaged, BadKey, BadAttributes, NoShape, Present}
+use Rattle.rules.specs.declared.Refusal.the-variants.{Absent, KeysFull, ShapesFull, TablesFull}
+use Rattle.rules.specs.declared.Refusal.the-variants.{EdgesFull, HoldsFull, BadSize, OutShort}
 
 -- The table's first two columns.
 abbrev pub refusalNumber : Refusal → ℕ

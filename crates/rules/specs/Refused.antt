@@ -7,63 +7,18 @@ use mathlib.Core.Path.{_≡_, refl}
 use Prim.Native.Nat.{ℕ, _-_, _*_, _^_}
 use lib.ListN.{replicate}
 use Rattle.store.specs.Lists.{agree}
-use Rattle.store.specs.Layout.{
-  goodLimits,
-  header,
-  flat,
-  rows,
-  words,
-  parse,
-}
+use Rattle.store.specs.Layout.{goodLimits, header, flat, rows, words, parse}
 use Rattle.store.specs.Model.{Limits, Model, blank, shapeAt, putShape}
-use Rattle.rules.specs.declared.Refusal.the-variants.{
-  Damaged,
-  BadKey,
-  BadAttributes,
-  NoShape,
-  Present,
-  Absent,
-  KeysFull,
-  ShapesFull,
-  TablesFull,
-  EdgesFull,
-  HoldsFull,
-  BadSize,
-  OutShort,
-}
+use Rattle.rules.specs.declared.Refusal.the-variants.{Damaged, BadKey, BadAttributes, NoShape, Present}
+use Rattle.rules.specs.declared.Refusal.the-variants.{Absent, KeysFull, ShapesFull, TablesFull}
+use Rattle.rules.specs.declared.Refusal.the-variants.{EdgesFull, HoldsFull, BadSize, OutShort}
 use Rattle.rules.specs.Shapes.{withHolds}
 use Rattle.rules.specs.Steps.{putCounter}
 use Rattle.rules.specs.Sound.{soundWords}
-use Rattle.rules.specs.Calls.{
-  Call,
-  newRoot,
-  newUnique,
-  insertKey,
-  changeKey,
-  removeKey,
-  changePrototype,
-  hold,
-  release,
-  previous,
-  sweep,
-  lookup,
-  keysInto,
-  prototypeOf,
-  isShared,
-  transitionsOf,
-  propertiesOf,
-  Freed,
-  Done,
-  Listed,
-  Number,
-  Reply,
-  No,
-  Yes,
-  call,
-  callOn,
-  after,
-  format,
-}
+use Rattle.rules.specs.Calls.{Call, newRoot, newUnique, insertKey, changeKey, removeKey}
+use Rattle.rules.specs.Calls.{changePrototype, hold, release, previous, sweep, lookup, keysInto}
+use Rattle.rules.specs.Calls.{prototypeOf, isShared, transitionsOf, propertiesOf, Freed, Done, Listed}
+use Rattle.rules.specs.Calls.{Number, Reply, No, Yes, call, callOn, after, format}
 use Rattle.rules.specs.Transcript.{Line, _⇒_, answers, gives, at, nowhere, limits, a, b, c}
 
 -- ## Transcripts from an image

@@ -13,28 +13,9 @@ use Rattle.store.specs.Layout.{within}
 use Rattle.rules.specs.declared.ChangeTransitionAction.{ChangeTransitionAction}
 use Rattle.rules.specs.declared.ChangeTransitionAction.the-variants.{Nothing, Remove, Insert}
 use Rattle.rules.specs.Refusals.{refusalNumber}
-use Rattle.rules.specs.Calls.{
-  Call,
-  newRoot,
-  newUnique,
-  insertKey,
-  changeKey,
-  removeKey,
-  changePrototype,
-  release,
-  sweep,
-  Given,
-  Freed,
-  Done,
-  Found,
-  NotFound,
-  Listed,
-  Number,
-  Reply,
-  No,
-  Yes,
-  call,
-}
+use Rattle.rules.specs.Calls.{Call, newRoot, newUnique, insertKey, changeKey, removeKey}
+use Rattle.rules.specs.Calls.{changePrototype, release, sweep, Given, Freed, Done, Found, NotFound}
+use Rattle.rules.specs.Calls.{Listed, Number, Reply, No, Yes, call}
 
 -- "its image array has 6,952 words: S 256, T 32, K 32, E 256"
 abbrev pub runnerLimits : Limits

@@ -8,44 +8,16 @@ use lib.ListN.{length}
 use Rattle.slot.specs.If.{if_then_else_}
 use Rattle.slot.specs.Attributes.{goodAttributes, width, sameWidth}
 use Rattle.store.specs.Lists.{numbered, keep, every, any, onlyOne, all, agree, zeros}
-use Rattle.store.specs.Model.{
-  Table,
-  free,
-  used,
-  Model,
-  freeShape,
-  freeTable,
-  freeEdge,
-  shapeAt,
-  tableAt,
-}
+use Rattle.store.specs.Model.{Table, free, used, Model, freeShape, freeTable, freeEdge, shapeAt, tableAt}
 use Rattle.store.specs.Layout.{limitsIn, goodLimits, goodHeader, shapeWords, edgeWords, tidyTables, parse}
 use Rattle.store.specs.declared.Shape.{Shape}
 use Rattle.store.specs.declared.Entry.{Entry}
 use Rattle.store.specs.declared.Edge.{Edge}
 use Rattle.rules.specs.Numbers.{goodKey}
-use Rattle.rules.specs.Shapes.{
-  has,
-  attributesIn,
-  pairs,
-  shared,
-  unique,
-  isRoot,
-  isChild,
-  tableOf,
-  entries,
-}
-use Rattle.rules.specs.Steps.{
-  Step,
-  insert,
-  configure,
-  prototype,
-  mayStep,
-  stepEntries,
-  stepPrototype,
-  edgeKind,
-  alike,
-}
+use Rattle.rules.specs.Shapes.{has, attributesIn, pairs, shared, unique, isRoot, isChild, tableOf}
+use Rattle.rules.specs.Shapes.{entries}
+use Rattle.rules.specs.Steps.{Step, insert, configure, prototype, mayStep, stepEntries, stepPrototype}
+use Rattle.rules.specs.Steps.{edgeKind, alike}
 
 -- ## Each record in use
 

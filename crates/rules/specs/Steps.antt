@@ -9,37 +9,16 @@ use lib.ListN.{length}
 use Rattle.slot.specs.If.{if_then_else_}
 use Rattle.slot.specs.Attributes.{sameWidth}
 use Rattle.store.specs.Lists.{any, first, last}
-use Rattle.store.specs.Model.{
-  Model,
-  used,
-  noEntry,
-  noCounters,
-  noEdge,
-  freeShape,
-  freeTable,
-  freeEdge,
-  shapeAt,
-  putShape,
-  putTable,
-  putEdge,
-}
+use Rattle.store.specs.Model.{Model, used, noEntry, noCounters, noEdge, freeShape, freeTable, freeEdge}
+use Rattle.store.specs.Model.{shapeAt, putShape, putTable, putEdge}
 use Rattle.store.specs.declared.Counters.{Counters}
 use Rattle.store.specs.declared.Shape.{Shape}
 use Rattle.store.specs.declared.Entry.{Entry}
 use Rattle.store.specs.declared.Edge.{Edge}
 use Rattle.rules.specs.declared.Refusal.the-variants.{KeysFull, ShapesFull, TablesFull, EdgesFull}
 use Rattle.rules.specs.Refusals.{Got, ok, _>>=_, _>>_, refuse, place}
-use Rattle.rules.specs.Shapes.{
-  isKey,
-  has,
-  attributesIn,
-  appended,
-  configured,
-  tableOf,
-  entries,
-  uniqueShape,
-  withCounters,
-}
+use Rattle.rules.specs.Shapes.{isKey, has, attributesIn, appended, configured, tableOf, entries}
+use Rattle.rules.specs.Shapes.{uniqueShape, withCounters}
 
 -- ## A step
 

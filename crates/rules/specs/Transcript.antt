@@ -8,49 +8,13 @@ use Rattle.store.specs.declared.Shape.{Shape}
 use Rattle.store.specs.declared.Edge.{Edge}
 use Rattle.store.specs.Model.{Table, Limits, Model, shapeAt, tableAt, putShape, putTable, putEdge}
 use Rattle.rules.specs.declared.ChangeTransitionAction.the-variants.{Nothing}
-use Rattle.rules.specs.Steps.{
-  pruned,
-  counted,
-  childTable,
-  grow,
-  make,
-  step,
-  steps,
-  chain,
-  rollback,
-  removeShared,
-  changeShared,
-  fresh,
-  limited,
-}
-use Rattle.rules.specs.Unique.{
-  emptied,
-  insertUnique,
-  removeUnique,
-  changeUnique,
-  prototypeUnique,
-  inserted,
-  changed,
-  removed,
-  rebased,
-}
-use Rattle.rules.specs.Sound.{
-  inRange,
-  tableInUse,
-  freeZero,
-  tablesGood,
-  tablesUsed,
-  countsFit,
-  rootsZero,
-  childrenLinked,
-  childrenStepped,
-  edgesDiffer,
-  edgesGood,
-  transitionsLimited,
-  holdsLimited,
-  uniquesZero,
-  soundModel,
-}
+use Rattle.rules.specs.Steps.{pruned, counted, childTable, grow, make, step, steps, chain, rollback}
+use Rattle.rules.specs.Steps.{removeShared, changeShared, fresh, limited}
+use Rattle.rules.specs.Unique.{emptied, insertUnique, removeUnique, changeUnique, prototypeUnique}
+use Rattle.rules.specs.Unique.{inserted, changed, removed, rebased}
+use Rattle.rules.specs.Sound.{inRange, tableInUse, freeZero, tablesGood, tablesUsed, countsFit}
+use Rattle.rules.specs.Sound.{rootsZero, childrenLinked, childrenStepped, edgesDiffer, edgesGood}
+use Rattle.rules.specs.Sound.{transitionsLimited, holdsLimited, uniquesZero, soundModel}
 use Rattle.rules.specs.Sweep.{sweptTo, reached, swept}
 use Rattle.rules.specs.Calls.{Call, Given, Found, NotFound, Reply, Yes, perform, call}
 

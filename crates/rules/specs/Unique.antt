@@ -10,29 +10,10 @@ use Rattle.store.specs.Model.{Model, used, shapeAt, putShape, putTable}
 use Rattle.store.specs.declared.Entry.{Entry}
 use Rattle.rules.specs.declared.Refusal.the-variants.{KeysFull}
 use Rattle.rules.specs.Refusals.{Got, ok, _>>=_, _>>_, refuse}
-use Rattle.rules.specs.Shapes.{
-  has,
-  attributesIn,
-  appended,
-  configured,
-  without,
-  laid,
-  unique,
-  tableOf,
-  entries,
-  uniqueShape,
-  withProperties,
-}
-use Rattle.rules.specs.Steps.{
-  insert,
-  prototype,
-  Placed,
-  step,
-  removeShared,
-  changeShared,
-  fresh,
-  limited,
-}
+use Rattle.rules.specs.Shapes.{has, attributesIn, appended, configured, without, laid, unique, tableOf}
+use Rattle.rules.specs.Shapes.{entries, uniqueShape, withProperties}
+use Rattle.rules.specs.Steps.{insert, prototype, Placed, step, removeShared, changeShared, fresh}
+use Rattle.rules.specs.Steps.{limited}
 
 -- "the old one keeps its own table place, now with no entries", its number and its holds.
 unfoldable pub emptied : Model → (place prototype : ℕ) → Model

@@ -6,15 +6,8 @@ use mathlib.Core.Path.{_≡_, refl}
 use Prim.Native.Nat.{ℕ, zero, suc, _+_, _*_}
 use lib.Dec.{eqb}
 use Rattle.slot.specs.If.{if_then_else_}
-use Rattle.slot.specs.Attributes.{
-  present,
-  goodAttributes,
-  accessor,
-  width,
-  merged,
-  notCacheableIfPrototype,
-  cacheable,
-}
+use Rattle.slot.specs.Attributes.{present, goodAttributes, accessor, width, merged}
+use Rattle.slot.specs.Attributes.{notCacheableIfPrototype, cacheable}
 
 -- The test passes at each number below n.
 abbrev each : ℕ → (ℕ → Bool) → Bool

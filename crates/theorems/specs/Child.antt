@@ -9,54 +9,20 @@ use native.Mathlib.Omega.{arith}
 use borrow.Author.Tests.{eqb-true}
 use lib.ListN.{length, take}
 use Rattle.store.specs.Lists.{at}
-use Rattle.store.specs.Model.{
-  Table,
-  free,
-  used,
-  Model,
-  noShape,
-  noEdge,
-  freeShape,
-  freeEdge,
-  shapeAt,
-  tableAt,
-  edgeAt,
-  putShape,
-  putEdge,
-}
+use Rattle.store.specs.Model.{Table, free, used, Model, noShape, noEdge, freeShape, freeEdge, shapeAt}
+use Rattle.store.specs.Model.{tableAt, edgeAt, putShape, putEdge}
 use Rattle.store.specs.PlaceLaws.{same?, AfterPut, here, elsewhere, after-put, put-here, put-elsewhere}
 use Rattle.store.specs.ListLaws.{Decided, either, not-both}
 use Rattle.store.specs.declared.Shape.{Shape}
 use Rattle.store.specs.declared.Entry.{Entry}
 use Rattle.store.specs.declared.Edge.{Edge}
 use Rattle.rules.specs.Shapes.{shared, unique, entries}
-use Rattle.rules.specs.Steps.{
-  Step,
-  insert,
-  configure,
-  prototype,
-  stepKind,
-  edgeOf,
-  edgeKind,
-  mayStep,
-  stepEntries,
-  added,
-  Placed,
-  childShape,
-}
+use Rattle.rules.specs.Steps.{Step, insert, configure, prototype, stepKind, edgeOf, edgeKind, mayStep}
+use Rattle.rules.specs.Steps.{stepEntries, added, Placed, childShape}
 use Rattle.rules.specs.Sound.{stepOf, goodLabel}
 use Rattle.rules.specs.Sweep.{deadened}
-use Rattle.theorems.specs.Facts.{
-  Used,
-  ChildSound,
-  ShapeSound,
-  GoodTable,
-  EdgeSound,
-  Alike,
-  Sound,
-  shared-used,
-  used-place,
-}
+use Rattle.theorems.specs.Facts.{Used, ChildSound, ShapeSound, GoodTable, EdgeSound, Alike, Sound}
+use Rattle.theorems.specs.Facts.{shared-used, used-place}
 use Rattle.theorems.specs.Entries.{leads-on}
 use Rattle.theorems.specs.Frame.{Longer, Keeps, longer-same, longer-entries}
 use Rattle.theorems.specs.Taken.{FreePlace}

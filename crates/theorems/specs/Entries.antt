@@ -16,18 +16,8 @@ use Rattle.store.specs.Model.{noEntry}
 use Rattle.store.specs.ListLaws.{and-both, both-and, or-none, agree→≡, agree-self, eqb-sym}
 use Rattle.store.specs.declared.Entry.{Entry}
 use Rattle.rules.specs.Numbers.{goodKey}
-use Rattle.rules.specs.Shapes.{
-  entry,
-  isKey,
-  has,
-  attributesIn,
-  widths,
-  appended,
-  configured,
-  without,
-  laid,
-  pairs,
-}
+use Rattle.rules.specs.Shapes.{entry, isKey, has, attributesIn, widths, appended, configured, without, laid}
+use Rattle.rules.specs.Shapes.{pairs}
 use Rattle.rules.specs.Steps.{Step, mayStep, stepEntries, stepPrototype}
 use Rattle.rules.specs.Sound.{distinct, slotsFrom, goodEntries, leads}
 

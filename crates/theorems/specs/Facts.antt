@@ -8,22 +8,8 @@ use Prim.Native.Nat.{ℕ, _+_, _≤_}
 use borrow.Author.Tests.{eqb-true}
 use lib.Dec.{eqb}
 use lib.ListN.{length}
-use Rattle.store.specs.Model.{
-  Table,
-  free,
-  used,
-  Model,
-  noCounters,
-  noShape,
-  noEdge,
-  freeShape,
-  freeTable,
-  freeEdge,
-  shapeAt,
-  tableAt,
-  edgeAt,
-  entriesOf,
-}
+use Rattle.store.specs.Model.{Table, free, used, Model, noCounters, noShape, noEdge, freeShape, freeTable}
+use Rattle.store.specs.Model.{freeEdge, shapeAt, tableAt, edgeAt, entriesOf}
 use Rattle.store.specs.ListLaws.{Decided, and-both, both-and, either}
 use Rattle.store.specs.declared.Shape.{Shape}
 use Rattle.store.specs.declared.Entry.{Entry}

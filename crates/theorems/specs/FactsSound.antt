@@ -10,55 +10,19 @@ use borrow.Author.Tests.{eqb-true, eqb-false, eq-eqb, le-leb, ltb-false}
 use lib.Dec.{eqb, leb, ltb}
 use lib.ListN.{length}
 use Rattle.slot.specs.If.{if_then_else_}
-use Rattle.store.specs.Model.{
-  Table,
-  free,
-  used,
-  Model,
-  noShape,
-  noEdge,
-  freeShape,
-  freeTable,
-  freeEdge,
-  shapeAt,
-  tableAt,
-  edgeAt,
-}
+use Rattle.store.specs.Model.{Table, free, used, Model, noShape, noEdge, freeShape, freeTable, freeEdge}
+use Rattle.store.specs.Model.{shapeAt, tableAt, edgeAt}
 use Rattle.store.specs.Layout.{roomFor, fits}
 use Rattle.store.specs.PlaceLaws.{at-inside}
 use Rattle.store.specs.ListLaws.{Decided, both-and, then-or, then-not, passed-all, _and_, every-make, either}
 use Rattle.store.specs.declared.Shape.{Shape}
 use Rattle.rules.specs.Shapes.{shared, unique, isRoot, isChild, tableOf}
-use Rattle.rules.specs.Sound.{
-  inRange,
-  tableInUse,
-  freeZero,
-  tablesGood,
-  users,
-  tablesUsed,
-  countsFit,
-  rootsZero,
-  edgesTo,
-  childrenLinked,
-  childrenStepped,
-  edgesDiffer,
-  edgesGood,
-  transitionsLimited,
-  holdsLimited,
-  uniquesZero,
-  modelSentences,
-  soundModel,
-}
+use Rattle.rules.specs.Sound.{inRange, tableInUse, freeZero, tablesGood, users, tablesUsed, countsFit}
+use Rattle.rules.specs.Sound.{rootsZero, edgesTo, childrenLinked, childrenStepped, edgesDiffer, edgesGood}
+use Rattle.rules.specs.Sound.{transitionsLimited, holdsLimited, uniquesZero, modelSentences, soundModel}
 use Rattle.theorems.specs.Facts.{Used, Sound, shared-used, used-place}
-use Rattle.theorems.specs.TestsSay.{
-  shape-each,
-  table-each,
-  edge-each,
-  user-counts,
-  alone-counts,
-  edge-to,
-  places-differ,
-}
+use Rattle.theorems.specs.TestsSay.{shape-each, table-each, edge-each, user-counts, alone-counts}
+use Rattle.theorems.specs.TestsSay.{edge-to, places-differ}
 
 state-low : (s : Shape) → (shared s ≡ true) ⊎ (unique s ≡ true) → s .state ≤ 2
 state-low s (inl e) = omega (arith, eqb-true (s .state) 1 e)

@@ -11,21 +11,8 @@ use borrow.Author.Tests.{eqb-true}
 use lib.ListN.{length, take, length-take}
 use lib.Seq.{take-take, take-length}
 use Rattle.store.specs.Lists.{last}
-use Rattle.store.specs.Model.{
-  Table,
-  used,
-  Model,
-  noCounters,
-  noShape,
-  noEdge,
-  freeShape,
-  freeTable,
-  freeEdge,
-  shapeAt,
-  tableAt,
-  edgeAt,
-  entriesOf,
-}
+use Rattle.store.specs.Model.{Table, used, Model, noCounters, noShape, noEdge, freeShape, freeTable, freeEdge}
+use Rattle.store.specs.Model.{shapeAt, tableAt, edgeAt, entriesOf}
 use Rattle.store.specs.ListLaws.{Decided, either, not-both}
 use Rattle.store.specs.declared.Counters.{Counters}
 use Rattle.store.specs.declared.Shape.{Shape}
@@ -36,23 +23,9 @@ use Rattle.rules.specs.Steps.{backward, chain}
 use Rattle.rules.specs.Sound.{goodLabel}
 use Rattle.rules.specs.Sweep.{deadened}
 use Rattle.rules.specs.Trails.{madeBy, trailOf, trail, root}
-use Rattle.theorems.specs.Facts.{
-  Used,
-  GoodWords,
-  InLimits,
-  ChildSound,
-  ShapeSound,
-  User,
-  GoodTable,
-  LeadsTo,
-  EdgeSound,
-  Alike,
-  Sound,
-  shared-used,
-  unique-used,
-  used-place,
-  transitions-child,
-}
+use Rattle.theorems.specs.Facts.{Used, GoodWords, InLimits, ChildSound, ShapeSound, User, GoodTable}
+use Rattle.theorems.specs.Facts.{LeadsTo, EdgeSound, Alike, Sound, shared-used, unique-used, used-place}
+use Rattle.theorems.specs.Facts.{transitions-child}
 use Rattle.theorems.specs.TestsSay.{edge-to}
 
 -- ## What a change is

@@ -9,21 +9,8 @@ use Prim.Native.Nat.{ℕ, _≤_}
 use native.Mathlib.Omega.{arith}
 use lib.ListN.{length}
 use Rattle.store.specs.Lists.{at}
-use Rattle.store.specs.Model.{
-  Table,
-  free,
-  used,
-  Model,
-  noShape,
-  freeShape,
-  freeTable,
-  freeEdge,
-  shapeAt,
-  tableAt,
-  edgeAt,
-  putShape,
-  putTable,
-}
+use Rattle.store.specs.Model.{Table, free, used, Model, noShape, freeShape, freeTable, freeEdge, shapeAt}
+use Rattle.store.specs.Model.{tableAt, edgeAt, putShape, putTable}
 use Rattle.store.specs.PlaceLaws.{same?, AfterPut, here, elsewhere, after-put, put-here, put-elsewhere}
 use Rattle.store.specs.ListLaws.{not-both}
 use Rattle.store.specs.declared.Shape.{Shape}
@@ -33,35 +20,10 @@ use Rattle.rules.specs.declared.Refusal.the-variants.{ShapesFull, TablesFull}
 use Rattle.rules.specs.Shapes.{shared, unique, isChild, rootShape, uniqueShape}
 use Rattle.rules.specs.Refusals.{ok, place}
 use Rattle.rules.specs.Steps.{Placed, copyTo, fresh}
-use Rattle.theorems.specs.Facts.{
-  Used,
-  GoodWords,
-  InLimits,
-  ShapeSound,
-  User,
-  GoodTable,
-  EdgeSound,
-  Alike,
-  Sound,
-  shared-used,
-  unique-used,
-  used-place,
-}
-use Rattle.theorems.specs.Frame.{
-  core,
-  Longer,
-  ShapeCase,
-  EdgeCase,
-  made,
-  Change,
-  Keeps,
-  change-keeps,
-  longer-same,
-  previous-used,
-  same-edge,
-  old-shape,
-  same-user,
-}
+use Rattle.theorems.specs.Facts.{Used, GoodWords, InLimits, ShapeSound, User, GoodTable, EdgeSound}
+use Rattle.theorems.specs.Facts.{Alike, Sound, shared-used, unique-used, used-place}
+use Rattle.theorems.specs.Frame.{core, Longer, ShapeCase, EdgeCase, made, Change, Keeps, change-keeps}
+use Rattle.theorems.specs.Frame.{longer-same, previous-used, same-edge, old-shape, same-user}
 use Rattle.theorems.specs.Taken.{bind-passed, FreePlace, place-passed}
 
 -- ## One shape more

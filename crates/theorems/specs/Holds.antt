@@ -18,17 +18,8 @@ use Rattle.rules.specs.Refusals.{ok}
 use Rattle.rules.specs.Calls.{Answer, Given, grant, releaseOne}
 use Rattle.rules.specs.Settled.{guard-passed, same-given}
 use Rattle.theorems.specs.Facts.{Used, InLimits, Sound, shared-used}
-use Rattle.theorems.specs.Frame.{
-  core,
-  Change,
-  Keeps,
-  change-keeps,
-  longer-same,
-  previous-used,
-  same-edge,
-  old-shape,
-  same-user,
-}
+use Rattle.theorems.specs.Frame.{core, Change, Keeps, change-keeps, longer-same, previous-used}
+use Rattle.theorems.specs.Frame.{same-edge, old-shape, same-user}
 
 module _ (m : Model) (sound : Sound m) (n : ℕ) (u : Used m n) where
   -- What stands at each place after a shape in use is replaced.

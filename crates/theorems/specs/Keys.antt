@@ -10,19 +10,8 @@ use lib.Dec.{eqb}
 use lib.Seq.{append-snoc}
 use Rattle.slot.specs.If.{if_then_else_}
 use Rattle.store.specs.Lists.{keep, every, any}
-use Rattle.store.specs.ListLaws.{
-  and-both,
-  or-then,
-  then-or,
-  or-none,
-  any-append,
-  keep-append,
-  keep-map,
-  Decided,
-  either,
-  not-both,
-  eqb-sym,
-}
+use Rattle.store.specs.ListLaws.{and-both, or-then, then-or, or-none, any-append, keep-append, keep-map}
+use Rattle.store.specs.ListLaws.{Decided, either, not-both, eqb-sym}
 use Rattle.store.specs.declared.Entry.{Entry}
 use Rattle.rules.specs.Shapes.{entry, isKey, widths, appended, configured, without}
 use Rattle.rules.specs.Steps.{Step, insert, configure, prototype, edgeOf, stepEntries, sameKey}

@@ -13,22 +13,8 @@ use lib.ListN.{length, take}
 use lib.Seq.{take-all, take-append-seam, length-take-le}
 use Rattle.slot.specs.Attributes.{goodAttributes}
 use Rattle.store.specs.Lists.{at, put}
-use Rattle.store.specs.Model.{
-  Table,
-  free,
-  used,
-  Model,
-  noShape,
-  noEdge,
-  freeShape,
-  freeTable,
-  freeEdge,
-  shapeAt,
-  tableAt,
-  putShape,
-  putTable,
-  putEdge,
-}
+use Rattle.store.specs.Model.{Table, free, used, Model, noShape, noEdge, freeShape, freeTable, freeEdge}
+use Rattle.store.specs.Model.{shapeAt, tableAt, putShape, putTable, putEdge}
 use Rattle.store.specs.PlaceLaws.{at-inside, at-put-other, at-put-same}
 use Rattle.store.specs.ListLaws.{Decided, and-both, both-and, either, not-both}
 use Rattle.store.specs.declared.Shape.{Shape}
@@ -37,31 +23,12 @@ use Rattle.rules.specs.declared.Refusal.the-variants.{KeysFull, ShapesFull, Tab
 use Rattle.rules.specs.Numbers.{goodKey}
 use Rattle.rules.specs.Shapes.{has, appended, configured, unique, tableOf, entries}
 use Rattle.rules.specs.Refusals.{Got, ok, _>>=_, place}
-use Rattle.rules.specs.Steps.{
-  Step,
-  insert,
-  configure,
-  prototype,
-  stepEntries,
-  added,
-  edgeOf,
-  Placed,
-  copyTo,
-  childTable,
-  childShape,
-  grow,
-}
+use Rattle.rules.specs.Steps.{Step, insert, configure, prototype, stepEntries, added, edgeOf, Placed, copyTo}
+use Rattle.rules.specs.Steps.{childTable, childShape, grow}
 use Rattle.rules.specs.Settled.{guard-passed, same-given}
 use Rattle.theorems.specs.Facts.{Used, GoodTable, Sound, shared-used, shared-not-unique, used-table}
-use Rattle.theorems.specs.Entries.{
-  good-take,
-  good-appended,
-  length-appended,
-  attributes-take,
-  good-configured,
-  length-configured,
-  take-configured,
-}
+use Rattle.theorems.specs.Entries.{good-take, good-appended, length-appended, attributes-take}
+use Rattle.theorems.specs.Entries.{good-configured, length-configured, take-configured}
 use Rattle.theorems.specs.Frame.{longer-same}
 use Rattle.theorems.specs.Taken.{bind-passed, FreePlace, place-passed}
 use Rattle.theorems.specs.Grow.{free-longer, free-unused}

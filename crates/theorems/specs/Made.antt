@@ -17,18 +17,8 @@ use Rattle.store.specs.declared.Entry.{Entry}
 use Rattle.store.specs.declared.Edge.{Edge}
 use Rattle.rules.specs.Numbers.{goodKey}
 use Rattle.rules.specs.Shapes.{entry, has, pairs, shared, isRoot, tableOf, entries}
-use Rattle.rules.specs.Steps.{
-  Step,
-  insert,
-  configure,
-  prototype,
-  stepKind,
-  edgeOf,
-  edgeKind,
-  mayStep,
-  stepEntries,
-  stepPrototype,
-}
+use Rattle.rules.specs.Steps.{Step, insert, configure, prototype, stepKind, edgeOf, edgeKind, mayStep}
+use Rattle.rules.specs.Steps.{stepEntries, stepPrototype}
 use Rattle.rules.specs.Sound.{slotsFrom, goodEntries, stepOf, goodLabel}
 use Rattle.rules.specs.Sweep.{deadened}
 use Rattle.rules.specs.Trails.{madeBy}

@@ -15,20 +15,8 @@ use Rattle.rules.specs.Shapes.{shared, withCounters}
 use Rattle.rules.specs.Steps.{dead, prune, counter, setCounter, putCounter, withEdges, pruned, counted}
 use Rattle.rules.specs.FirstLaws.{prune-at, prune-live}
 use Rattle.theorems.specs.Facts.{Used, InLimits, Sound, shared-used, shared-not-unique, used-place}
-use Rattle.theorems.specs.Frame.{
-  EdgeCase,
-  vacant,
-  Change,
-  Keeps,
-  change-keeps,
-  keeps-again,
-  kept-used,
-  longer-same,
-  previous-used,
-  same-edge,
-  old-shape,
-  same-user,
-}
+use Rattle.theorems.specs.Frame.{EdgeCase, vacant, Change, Keeps, change-keeps, keeps-again, kept-used}
+use Rattle.theorems.specs.Frame.{longer-same, previous-used, same-edge, old-shape, same-user}
 use Rattle.theorems.specs.Holds.{core-put}
 
 -- ## Dead edges

@@ -7,51 +7,20 @@ use mathlib.Core.Path.{_≡_, refl, sym, _∙_, ap}
 use Prim.Native.Nat.{ℕ}
 use native.Mathlib.Omega.{arith}
 use lib.ListN.{length}
-use Rattle.store.specs.Model.{
-  free,
-  putShape,
-  putTable,
-  used,
-  Model,
-  freeShape,
-  freeTable,
-  shapeAt,
-  tableAt,
-  edgeAt,
-}
+use Rattle.store.specs.Model.{free, putShape, putTable, used, Model, freeShape, freeTable, shapeAt, tableAt}
+use Rattle.store.specs.Model.{edgeAt}
 use Rattle.store.specs.Lists.{at, put}
 use Rattle.store.specs.PlaceLaws.{same?, at-inside, AfterPut, after-put, put-here, put-elsewhere}
 use Rattle.store.specs.ListLaws.{Decided, either, not-both}
 use Rattle.store.specs.declared.Shape.{Shape}
 use Rattle.store.specs.declared.Entry.{Entry}
 use Rattle.rules.specs.Shapes.{shared, unique}
-use Rattle.theorems.specs.Facts.{
-  Used,
-  GoodWords,
-  InLimits,
-  ShapeSound,
-  User,
-  GoodTable,
-  Sound,
-  shared-used,
-  unique-used,
-  shared-not-unique,
-  child-shared,
-}
+use Rattle.theorems.specs.Facts.{Used, GoodWords, InLimits, ShapeSound, User, GoodTable, Sound}
+use Rattle.theorems.specs.Facts.{shared-used, unique-used, shared-not-unique, child-shared}
 use Rattle.theorems.specs.Holds.{shape-put}
 use Rattle.theorems.specs.Grow.{FreshShape}
-use Rattle.theorems.specs.Frame.{
-  core,
-  longer-same,
-  ShapeCase,
-  stays,
-  vacant,
-  made,
-  Change,
-  Keeps,
-  change-keeps,
-  same-edge,
-}
+use Rattle.theorems.specs.Frame.{core, longer-same, ShapeCase, stays, vacant, made, Change, Keeps}
+use Rattle.theorems.specs.Frame.{change-keeps, same-edge}
 
 -- j is m with other words for the unique shape at n, and the entries es in its table.
 pub record Retabled (m j : Model) (n : ℕ) (es : List Entry) : Type 0 where

@@ -16,68 +16,23 @@ use Rattle.slot.specs.If.{if_then_else_}
 use Rattle.slot.specs.Attributes.{goodAttributes}
 use Rattle.store.specs.Lists.{every, any, last}
 use Rattle.store.specs.Model.{Model, noEntry, shapeAt}
-use Rattle.store.specs.ListLaws.{
-  and-both,
-  both-and,
-  every-last,
-  any-append,
-  Decided,
-  either,
-  not-both,
-  eqb-sym,
-  last-map,
-  last-append,
-  front-last,
-}
+use Rattle.store.specs.ListLaws.{and-both, both-and, every-last, any-append, Decided, either, not-both}
+use Rattle.store.specs.ListLaws.{eqb-sym, last-map, last-append, front-last}
 use Rattle.store.specs.declared.Shape.{Shape}
 use Rattle.store.specs.declared.Entry.{Entry}
 use Rattle.rules.specs.Numbers.{goodKey}
 use Rattle.rules.specs.Shapes.{isKey, has, without}
-use Rattle.rules.specs.Steps.{
-  Step,
-  insert,
-  configure,
-  prototype,
-  backward,
-  chain,
-  prototypeStep,
-  lastOf,
-  inserts,
-  remember,
-  sameKey,
-  yields,
-  Back,
-  back,
-  rollback,
-}
+use Rattle.rules.specs.Steps.{Step, insert, configure, prototype, backward, chain, prototypeStep, lastOf}
+use Rattle.rules.specs.Steps.{inserts, remember, sameKey, yields, Back, back, rollback}
 use Rattle.rules.specs.Sound.{distinct}
 use Rattle.rules.specs.Trails.{madeBy}
 use Rattle.theorems.specs.Facts.{Sound}
 use Rattle.theorems.specs.Entries.{keys, goodEntry, GoodKeys, good-keys, has-keys}
-use Rattle.theorems.specs.Made.{
-  SharedAt,
-  entriesAt,
-  prototypeAt,
-  previousAt,
-  transitionsAt,
-  Made,
-  entries-good,
-  made,
-  at-root,
-}
+use Rattle.theorems.specs.Made.{SharedAt, entriesAt, prototypeAt, previousAt, transitionsAt, Made}
+use Rattle.theorems.specs.Made.{entries-good, made, at-root}
 use Rattle.theorems.specs.SameTrail.{OnChain, first-on-chain, on-chain-before}
-use Rattle.theorems.specs.Keys.{
-  apart-distinct,
-  Alone,
-  distinct-alone,
-  keys-without,
-  keys-stepped,
-  stepKeys,
-  same-key-any,
-  goodInsert,
-  LeadTo,
-  inserts-lead,
-}
+use Rattle.theorems.specs.Keys.{apart-distinct, Alone, distinct-alone, keys-without, keys-stepped}
+use Rattle.theorems.specs.Keys.{stepKeys, same-key-any, goodInsert, LeadTo, inserts-lead}
 
 -- ## Statements
 

@@ -19,24 +19,10 @@ use Rattle.rules.specs.Shapes.{isRoot}
 use Rattle.rules.specs.Steps.{Step, edgeOf, stepEntries, stepPrototype, backward, chain}
 use Rattle.rules.specs.Trails.{madeBy, trailOf, trail, root}
 use Rattle.theorems.specs.Facts.{Sound}
-use Rattle.theorems.specs.Made.{
-  SharedAt,
-  entriesAt,
-  prototypeAt,
-  previousAt,
-  transitionsAt,
-  Made,
-  made,
-  at-root,
-}
-use Rattle.theorems.specs.InTurn.{
-  stepsEntries,
-  stepsPrototype,
-  Legal,
-  entries-append,
-  prototype-append,
-  legal-append,
-}
+use Rattle.theorems.specs.Made.{SharedAt, entriesAt, prototypeAt, previousAt, transitionsAt, Made, made}
+use Rattle.theorems.specs.Made.{at-root}
+use Rattle.theorems.specs.InTurn.{stepsEntries, stepsPrototype, Legal, entries-append, prototype-append}
+use Rattle.theorems.specs.InTurn.{legal-append}
 
 -- ## Statements
 

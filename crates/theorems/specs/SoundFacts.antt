@@ -11,87 +11,24 @@ use lib.Dec.{eqb, leb, ltb}
 use lib.ListN.{length}
 use Rattle.slot.specs.If.{if_then_else_}
 use Rattle.store.specs.Lists.{at, every, zeros}
-use Rattle.store.specs.Model.{
-  free,
-  used,
-  Model,
-  noCounters,
-  noShape,
-  noEdge,
-  freeShape,
-  freeTable,
-  freeEdge,
-  shapeAt,
-  tableAt,
-  edgeAt,
-}
+use Rattle.store.specs.Model.{free, used, Model, noCounters, noShape, noEdge, freeShape, freeTable, freeEdge}
+use Rattle.store.specs.Model.{shapeAt, tableAt, edgeAt}
 use Rattle.store.specs.Layout.{shapeWords, roomFor, fits}
-use Rattle.store.specs.ListLaws.{
-  Decided,
-  and-both,
-  or-then,
-  not-then,
-  Passed,
-  all-passed,
-  every-place,
-  either,
-  zeros→replicate,
-}
+use Rattle.store.specs.ListLaws.{Decided, and-both, or-then, not-then, Passed, all-passed, every-place}
+use Rattle.store.specs.ListLaws.{either, zeros→replicate}
 use Rattle.store.specs.declared.Shape.{Shape}
 use Rattle.store.specs.declared.Entry.{Entry}
 use Rattle.store.specs.declared.Edge.{Edge}
 use Rattle.rules.specs.Shapes.{unique, isRoot, isChild, tableOf}
 use Rattle.rules.specs.Steps.{edgeKind}
-use Rattle.rules.specs.Sound.{
-  eachShape,
-  eachTable,
-  inRange,
-  tableInUse,
-  freeZero,
-  tablesGood,
-  users,
-  tablesUsed,
-  countsFit,
-  rootsZero,
-  childrenLinked,
-  stepOf,
-  childrenStepped,
-  edgesDiffer,
-  goodChild,
-  edgesGood,
-  transitionsLimited,
-  holdsLimited,
-  uniquesZero,
-  modelSentences,
-  soundModel,
-}
-use Rattle.theorems.specs.Facts.{
-  Used,
-  RootZero,
-  UniqueZero,
-  GoodWords,
-  InLimits,
-  ChildSound,
-  User,
-  GoodTable,
-  LeadsTo,
-  EdgeSound,
-  Alike,
-  Sound,
-  used-place,
-  used-table,
-}
-use Rattle.theorems.specs.TestsSay.{
-  each-shape,
-  each-table,
-  each-edge,
-  zero-shape,
-  zero-edge,
-  a-user,
-  one-user,
-  one-edge,
-  differ-places,
-}
+use Rattle.rules.specs.Sound.{eachShape, eachTable, inRange, tableInUse, freeZero, tablesGood, users}
+use Rattle.rules.specs.Sound.{tablesUsed, countsFit, rootsZero, childrenLinked, stepOf, childrenStepped}
+use Rattle.rules.specs.Sound.{edgesDiffer, goodChild, edgesGood, transitionsLimited, holdsLimited}
+use Rattle.rules.specs.Sound.{uniquesZero, modelSentences, soundModel}
+use Rattle.theorems.specs.Facts.{Used, RootZero, UniqueZero, GoodWords, InLimits, ChildSound, User}
+use Rattle.theorems.specs.Facts.{GoodTable, LeadsTo, EdgeSound, Alike, Sound, used-place, used-table}
+use Rattle.theorems.specs.TestsSay.{each-shape, each-table, each-edge, zero-shape, zero-edge, a-user}
+use Rattle.theorems.specs.TestsSay.{one-user, one-edge, differ-places}
 
 -- ## A shape's own words
 

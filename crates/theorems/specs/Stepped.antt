@@ -20,24 +20,8 @@ use Rattle.store.specs.declared.Edge.{Edge}
 use Rattle.rules.specs.Shapes.{has, pairs, shared, entries}
 use Rattle.rules.specs.Refusals.{ok}
 use Rattle.rules.specs.Settled.{same-given}
-use Rattle.rules.specs.Steps.{
-  Step,
-  insert,
-  configure,
-  prototype,
-  edgeOf,
-  edgeKind,
-  mayStep,
-  stepEntries,
-  stepPrototype,
-  alike,
-  dead,
-  Placed,
-  pruned,
-  make,
-  along,
-  step,
-}
+use Rattle.rules.specs.Steps.{Step, insert, configure, prototype, edgeOf, edgeKind, mayStep, stepEntries}
+use Rattle.rules.specs.Steps.{stepPrototype, alike, dead, Placed, pruned, make, along, step}
 use Rattle.rules.specs.Sound.{stepOf}
 use Rattle.rules.specs.Sweep.{deadened}
 use Rattle.theorems.specs.Facts.{Used, Alike, Sound, shared-used, used-place}

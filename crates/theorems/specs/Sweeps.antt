@@ -8,19 +8,8 @@ use Prim.Native.Nat.{ℕ}
 use borrow.Author.Tests.{eq-eqb, eqb-true, ne-eqb, not-true}
 use Rattle.slot.specs.If.{if_then_else_}
 use Rattle.store.specs.Lists.{any}
-use Rattle.store.specs.Model.{
-  free,
-  used,
-  Model,
-  noShape,
-  noEdge,
-  freeShape,
-  freeTable,
-  freeEdge,
-  shapeAt,
-  tableAt,
-  edgeAt,
-}
+use Rattle.store.specs.Model.{free, used, Model, noShape, noEdge, freeShape, freeTable, freeEdge, shapeAt}
+use Rattle.store.specs.Model.{tableAt, edgeAt}
 use Rattle.store.specs.PlaceLaws.{at-map, at-map-numbered}
 use Rattle.store.specs.ListLaws.{Decided, and-both, both-and, either, not-both, any-place, place-any}
 use Rattle.store.specs.declared.Entry.{Entry}
@@ -29,19 +18,8 @@ use Rattle.rules.specs.Shapes.{shared, isChild}
 use Rattle.rules.specs.Sound.{uses}
 use Rattle.rules.specs.Sweep.{deadened, sweepEdge, sweptTo}
 use Rattle.theorems.specs.Facts.{Used, User, Sound, shared-used, used-place}
-use Rattle.theorems.specs.Frame.{
-  core,
-  ShapeCase,
-  stays,
-  EdgeCase,
-  kept,
-  cut,
-  vacant,
-  Change,
-  Keeps,
-  change-keeps,
-  longer-same,
-}
+use Rattle.theorems.specs.Frame.{core, ShapeCase, stays, EdgeCase, kept, cut, vacant, Change, Keeps}
+use Rattle.theorems.specs.Frame.{change-keeps, longer-same}
 
 -- ## What stands at each place after a sweep
 

@@ -10,38 +10,12 @@ use borrow.Author.Tests.{eqb-true, eq-eqb, ne-eqb, not-true}
 use lib.Dec.{eqb}
 use lib.ListN.{length}
 use Rattle.store.specs.Lists.{at, keep, any, onlyOne, zeros}
-use Rattle.store.specs.Model.{
-  Table,
-  free,
-  used,
-  Model,
-  noShape,
-  noEdge,
-  freeShape,
-  freeEdge,
-  shapeAt,
-  tableAt,
-  edgeAt,
-}
+use Rattle.store.specs.Model.{Table, free, used, Model, noShape, noEdge, freeShape, freeEdge, shapeAt}
+use Rattle.store.specs.Model.{tableAt, edgeAt}
 use Rattle.store.specs.Layout.{shapeWords, edgeWords, readShape, readEdge}
-use Rattle.store.specs.ListLaws.{
-  and-both,
-  both-and,
-  or-then,
-  then-or,
-  every-place,
-  every-make,
-  every-numbered,
-  numbered-every,
-  not-both,
-  any-place,
-  place-any,
-  keep-any,
-  any-keep,
-  only-kept,
-  kept-only,
-  zeros→replicate,
-}
+use Rattle.store.specs.ListLaws.{and-both, both-and, or-then, then-or, every-place, every-make}
+use Rattle.store.specs.ListLaws.{every-numbered, numbered-every, not-both, any-place, place-any, keep-any}
+use Rattle.store.specs.ListLaws.{any-keep, only-kept, kept-only, zeros→replicate}
 use Rattle.store.specs.declared.Shape.{Shape}
 use Rattle.store.specs.declared.Entry.{Entry}
 use Rattle.store.specs.declared.Edge.{Edge}

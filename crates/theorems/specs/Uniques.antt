@@ -17,36 +17,16 @@ use Rattle.store.specs.declared.Shape.{Shape}
 use Rattle.store.specs.declared.Entry.{Entry}
 use Rattle.rules.specs.declared.Refusal.the-variants.{KeysFull}
 use Rattle.rules.specs.Numbers.{goodKey}
-use Rattle.rules.specs.Shapes.{
-  has,
-  attributesIn,
-  appended,
-  configured,
-  without,
-  laid,
-  shared,
-  unique,
-  tableOf,
-  entries,
-  uniqueShape,
-  withProperties,
-}
+use Rattle.rules.specs.Shapes.{has, attributesIn, appended, configured, without, laid, shared, unique}
+use Rattle.rules.specs.Shapes.{tableOf, entries, uniqueShape, withProperties}
 use Rattle.rules.specs.Refusals.{ok}
 use Rattle.rules.specs.Settled.{guard-passed, same-given}
 use Rattle.rules.specs.Steps.{Placed}
 use Rattle.rules.specs.Sound.{goodEntries}
 use Rattle.rules.specs.Unique.{emptied, replaced, insertUnique, removeUnique, changeUnique, prototypeUnique}
 use Rattle.theorems.specs.Facts.{Used, GoodTable, Sound, unique-used, used-table, shared-not-unique}
-use Rattle.theorems.specs.Entries.{
-  good-appended,
-  length-appended,
-  good-configured,
-  length-configured,
-  good-changed,
-  good-without,
-  length-without,
-  length-laid,
-}
+use Rattle.theorems.specs.Entries.{good-appended, length-appended, good-configured, length-configured}
+use Rattle.theorems.specs.Entries.{good-changed, good-without, length-without, length-laid}
 use Rattle.theorems.specs.Frame.{Keeps, keeps-again, kept-used, kept-self}
 use Rattle.theorems.specs.Grow.{FreshShape, fresh-keeps, fresh-unique}
 use Rattle.theorems.specs.Retabled.{Others, retabled-keeps, table-put, both-put}
