@@ -13,6 +13,7 @@ use lib.Dec.{eqb}
 use lib.ListN.{length, getD, replicate, length-append}
 use Rattle.slot.specs.If.{if_then_else_}
 use Rattle.store.specs.Lists.{at, numbered, keep, every, any, last, all, agree, zeros}
+use Rattle.store.specs.Layout.{flat}
 use Rattle.store.specs.PlaceLaws.{at-tail}
 
 -- ## Tests that pass
@@ -131,6 +132,11 @@ pub any-append : {A : Type 0} (test : A → Bool) (xs ys : List A)
 any-append test [] ys = refl
 any-append test (x ∷ xs) ys =
     ap (λ (b : Bool). test x || b) (any-append test xs ys) ∙ sym (or-assoc (test x) (any test xs) (any test ys))
+
+pub any-flat : (test : ℕ → Bool) (rs : List (List ℕ)) → any test (flat rs) ≡ any (any test) rs
+unfolding flat
+any-flat test [] = refl
+any-flat test (r ∷ rs) = any-append test r (flat rs) ∙ ap (λ (b : Bool). any test r || b) (any-flat test rs)
 
 -- The test that all pass.
 abbrev pub always : {A : Type 0} → A → Bool

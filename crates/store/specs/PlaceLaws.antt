@@ -6,7 +6,7 @@ use mathlib.Core.Logic.{_⊎_, inl, inr, _≢_}
 use mathlib.Core.Option.{none, some}
 use mathlib.Core.Path.{_≡_, refl, sym, _∙_, ap}
 use Prim.Native.Nat.{ℕ, zero, suc, _+_, _≤_, _<_}
-use native.Mathlib.Nat.{not-suc-le-zero, le-of-suc-le-suc, add-zero}
+use native.Mathlib.Nat.{not-suc-le-zero, le-of-suc-le-suc, add-zero, add-suc, suc-add}
 use native.Mathlib.Numerals.{one-add}
 use native.Mathlib.Omega.{arith}
 use borrow.Author.Tests.{eqb-true, eqb-false}
@@ -98,18 +98,22 @@ at-map f [] (suc n) d e = sym e
 at-map f (x ∷ xs) (suc zero) d e = refl
 at-map f (x ∷ xs) (suc (suc n)) d e = at-map f xs (suc n) d e
 
--- The same of a change that sees the place too.
-map-from : {A : Type 0} (f : ℕ × A → A) (start : ℕ) (xs : List A) (k : ℕ) (d : A) → ((n : ℕ) → f (n, d) ≡ d)
-    → getD (map f (numbered start xs)) k d ≡ f (start + k, getD xs k d)
-map-from f start [] k d e = sym (e (start + k))
-map-from f start (x ∷ xs) zero d e = rw add-zero
-map-from f start (x ∷ xs) (suc k) d e =
-    map-from f (suc start) xs k d e ∙ ap (λ (n : ℕ). f (n, getD xs k d)) (omega arith)
+module _ {A B : Type 0} (f : ℕ × A → B) (d : A) (e : B) (same : (n : ℕ) → f (n, d) ≡ e) where
+  -- So does one that sees the place too and makes e of d everywhere: numbered from a start,
+  map-from : (start : ℕ) (xs : List A) (k : ℕ)
+      → getD (map f (numbered start xs)) k e ≡ f (start + k, getD xs k d)
+  map-from start [] k = sym (same (start + k))
+  map-from start (x ∷ xs) zero = rw add-zero
+  map-from start (x ∷ xs) (suc k) = map-from (suc start) xs k ∙ rw (add-suc, suc-add)
 
-pub at-map-numbered : {A : Type 0} (f : ℕ × A → A) (xs : List A) (n : ℕ) (d : A) → ((k : ℕ) → f (k, d) ≡ d)
-    → at (map f (numbered 1 xs)) n d ≡ f (n, at xs n d)
-at-map-numbered f xs zero d e = sym (e 0)
-at-map-numbered f xs (suc k) d e = rw one-add at (map-from f 1 xs k d e)
+  -- and numbered from 1.
+  pub at-map-numbered : (xs : List A) (n : ℕ) → at (map f (numbered 1 xs)) n e ≡ f (n, at xs n d)
+  at-map-numbered xs zero = sym (same 0)
+  at-map-numbered xs (suc k) = rw one-add at (map-from 1 xs k)
+
+pub length-numbered : {A : Type 0} (start : ℕ) (xs : List A) → length (numbered start xs) ≡ length xs
+length-numbered start [] = refl
+length-numbered start (x ∷ xs) = ap suc (length-numbered (suc start) xs)
 
 -- ## Positions, the first of them 0
 

@@ -14,8 +14,9 @@ pub mod Makes
 pub mod Stepped
 pub mod Retabled
 pub mod Uniques
+pub mod SweepLaws
 pub mod Sweeps
-pub mod Reached
+pub mod OnChain
 pub mod Made
 pub mod InTurn
 pub mod SameTrail

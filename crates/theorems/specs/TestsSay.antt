@@ -81,18 +81,25 @@ module _ (m : Model) where
   user-is : (t n : ℕ) → Used m n → shapeAt m n .table ≡ t → uses t (shapeAt m n) ≡ true
   user-is t n u e = rw u (eq-eqb (shapeAt m n .table) t e)
 
-  pub a-user : (t : ℕ) → 1 ≤ users m t → User m t
+  -- Some shape passes the test exactly if there is a user,
+  pub any-user : (t : ℕ) → any (uses t) (m .shapes) ≡ true → User m t
   unfolding shapeAt
-  a-user t l = go (any-place (uses t) noShape refl (m .shapes) (keep-any (uses t) noShape refl (m .shapes) l))
+  any-user t e = go (any-place (uses t) noShape refl (m .shapes) e)
     where
       go : (n : ℕ) × (uses t (at (m .shapes) n noShape) ≡ true) → User m t
       go (n, e) = record { place = n; isUsed = its-user t n e .0; its = its-user t n e .1 }
 
-  pub user-counts : (t : ℕ) → User m t → 1 ≤ users m t
+  pub user-any : (t : ℕ) → User m t → any (uses t) (m .shapes) ≡ true
   unfolding shapeAt
-  user-counts t u =
-      any-keep (uses t) noShape refl (m .shapes)
-      (place-any (uses t) noShape refl (m .shapes) (u .place) (user-is t (u .place) (u .isUsed) (u .its)))
+  user-any t u =
+      place-any (uses t) noShape refl (m .shapes) (u .place) (user-is t (u .place) (u .isUsed) (u .its))
+
+  -- and then the users are counted.
+  pub a-user : (t : ℕ) → 1 ≤ users m t → User m t
+  a-user t l = any-user t (keep-any (uses t) noShape refl (m .shapes) l)
+
+  pub user-counts : (t : ℕ) → User m t → 1 ≤ users m t
+  user-counts t u = any-keep (uses t) noShape refl (m .shapes) (user-any t u)
 
   pub one-user : (n : ℕ) → Used m n → users m (shapeAt m n .table) ≡ 1
       → (k : ℕ) → Used m k → shapeAt m k .table ≡ shapeAt m n .table → k ≡ n
