@@ -6,3 +6,4 @@ pub mod NewStep
 pub mod PlanRight
 pub mod PlanClosed
 pub mod PlanCases
+pub mod PlanLegal

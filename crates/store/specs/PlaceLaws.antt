@@ -79,6 +79,26 @@ after-put xs n x d low high k = go (same? k n)
     go (inl e) = here e (rw e (at-put-same xs n x d low high))
     go (inr e) = elsewhere e (at-put-other xs n k x d e)
 
+-- The same with no bounds: past the end nothing is put.
+pub put-or-not : {A : Type 0} (xs : List A) (n : ℕ) (x d : A) (k : ℕ)
+    → (at (put xs n x) k d ≡ at xs k d) ⊎ ((k ≡ n) × (at (put xs n x) k d ≡ x))
+put-or-not xs zero x d k = inl refl
+put-or-not [] (suc n) x d k = inl refl
+put-or-not (y ∷ ys) (suc zero) x d zero = inl refl
+put-or-not (y ∷ ys) (suc zero) x d (suc zero) = inr (refl, refl)
+put-or-not (y ∷ ys) (suc zero) x d (suc (suc k)) = inl refl
+put-or-not (y ∷ ys) (suc (suc n)) x d zero = inl refl
+put-or-not (y ∷ ys) (suc (suc n)) x d (suc zero) = inl refl
+put-or-not {A} (y ∷ ys) (suc (suc n)) x d (suc (suc k)) = go (put-or-not ys (suc n) x d (suc k))
+  where
+    now : A
+    now = at (put ys (suc n) x) (suc k) d
+
+    go : (now ≡ at ys (suc k) d) ⊎ ((suc k ≡ suc n) × (now ≡ x))
+        → (now ≡ at ys (suc k) d) ⊎ ((suc (suc k) ≡ suc (suc n)) × (now ≡ x))
+    go (inl q) = inl q
+    go (inr (e, q)) = inr (ap suc e, q)
+
 module _ {A : Type 0} {x before now : A} where
   pub put-here : {n : ℕ} → AfterPut n n x before now → now ≡ x
   put-here (here e q) = q

@@ -11,7 +11,8 @@ use lib.ListN.{length, take}
 use Rattle.store.specs.Lists.{at}
 use Rattle.store.specs.Model.{Table, free, used, Model, noShape, noEdge, freeShape, freeEdge, shapeAt}
 use Rattle.store.specs.Model.{tableAt, edgeAt, putShape, putEdge}
-use Rattle.store.specs.PlaceLaws.{same?, AfterPut, here, elsewhere, after-put, put-here, put-elsewhere}
+use Rattle.store.specs.PlaceLaws.{length-put, same?, AfterPut, here, elsewhere, after-put, put-here}
+use Rattle.store.specs.PlaceLaws.{put-elsewhere}
 use Rattle.store.specs.ListLaws.{Decided, either, not-both}
 use Rattle.store.specs.declared.Shape.{Shape}
 use Rattle.store.specs.declared.Entry.{Entry}
@@ -21,8 +22,10 @@ use Rattle.rules.specs.Steps.{Step, insert, configure, prototype, stepKind, edg
 use Rattle.rules.specs.Steps.{stepEntries, added, Placed, childShape}
 use Rattle.rules.specs.Sound.{stepOf, goodLabel}
 use Rattle.rules.specs.Sweep.{deadened}
+use Rattle.rules.specs.Trails.{madeBy}
 use Rattle.theorems.specs.Facts.{Used, ChildSound, ShapeSound, GoodTable, EdgeSound, Alike, Sound}
 use Rattle.theorems.specs.Facts.{shared-used, used-place}
+use Rattle.theorems.specs.TestsSay.{edge-to}
 use Rattle.theorems.specs.Entries.{leads-on}
 use Rattle.theorems.specs.Frame.{Longer, Keeps, longer-same, longer-entries}
 use Rattle.theorems.specs.Taken.{FreePlace}
@@ -44,6 +47,7 @@ pub record Ready (m : Model) (n : ℕ) (t : Step) : Type 0 where
 
 -- Among the tables ts the one at place p has the entries es, and serves a child of s by the step t.
 pub record Laid (m : Model) (s : Shape) (t : Step) (ts : List Table) (p : ℕ) (es : List Entry) : Type 0 where
+  pub sameCount : length ts ≡ length (m .tables)
   pub table : at ts p free ≡ used es
   pub otherTables : (k : ℕ) → k ≢ p → at ts k free ≡ tableAt m k
   pub longer : Longer (tableAt m p) (used es)
@@ -57,6 +61,7 @@ pub record Grown (m : Model) (n : ℕ) (t : Step) (y : Placed) : Type 0 where
   pub table : ℕ
   pub stands : shapeAt (y .0) (y .1) ≡ childShape n (shapeAt m n) t table
   pub itsEntries : entries (y .0) (shapeAt (y .0) (y .1)) ≡ stepEntries t (entries m (shapeAt m n))
+  pub itsStep : madeBy (y .0) (y .1) ≡ t
   pub wasFree : freeShape (shapeAt m (y .1)) ≡ true
   pub keeps : Keeps m (y .0) (Used m)
 
@@ -132,13 +137,13 @@ module _ (m : Model) (sound : Sound m) (n : ℕ) (t : Step) (ready : Ready m n t
   its-table : tableAt j p ≡ used es
   its-table = table-at p ∙ laid .table
 
+  place : c ≢ 0
+  place q = omega (arith, shapePlace .low)
+
   -- No edge led to the free place.
   only-edge : (k : ℕ) → edgeAt j k .child ≡ c → k ≡ e
   only-edge k h = go (edge-at k) (either (freeEdge (edgeAt m k)))
     where
-      place : c ≢ 0
-      place q = omega (arith, shapePlace .low)
-
       go : AfterPut e k y (edgeAt m k) (edgeAt j k)
           → Decided (freeEdge (edgeAt m k)) → k ≡ e
       go (here q z) u = q
@@ -231,7 +236,7 @@ module _ (m : Model) (sound : Sound m) (n : ℕ) (t : Step) (ready : Ready m n t
   child-growth =
       let its = put-here (shape-at c) in
       record {
-        sameRoom = refl;
+        sameLimits = simp (length-put, laid .sameCount);
         wasFree = was-free;
         otherShapes = λ k ne. put-elsewhere ne (shape-at k);
         isSound = rw its new-sound;
@@ -246,10 +251,12 @@ module _ (m : Model) (sound : Sound m) (n : ℕ) (t : Step) (ready : Ready m n t
 
   pub child-grown : Grown m n t (j, c)
   child-grown =
+      let its = put-here (edge-at e) in
       record {
         table = p;
         stands = put-here (shape-at c);
         itsEntries = rw (put-here (shape-at c), its-table) (laid .stepped);
+        itsStep = rw (edge-to j c place e (rw its) only-edge, its, put-here (shape-at c)) (step-of n t c);
         wasFree = was-free;
         keeps = growth-keeps m j sound c p es child-growth;
       }

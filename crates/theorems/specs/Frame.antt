@@ -11,8 +11,8 @@ use borrow.Author.Tests.{eqb-true}
 use lib.ListN.{length, take, length-take}
 use lib.Seq.{take-take, take-length}
 use Rattle.store.specs.Lists.{last}
-use Rattle.store.specs.Model.{Table, used, Model, noCounters, noShape, noEdge, freeShape, freeTable, freeEdge}
-use Rattle.store.specs.Model.{shapeAt, tableAt, edgeAt, entriesOf}
+use Rattle.store.specs.Model.{Table, used, Limits, Model, limitsOf, noCounters, noShape, noEdge, freeShape}
+use Rattle.store.specs.Model.{freeTable, freeEdge, shapeAt, tableAt, edgeAt, entriesOf}
 use Rattle.store.specs.ListLaws.{Decided, either, not-both}
 use Rattle.store.specs.declared.Counters.{Counters}
 use Rattle.store.specs.declared.Shape.{Shape}
@@ -70,7 +70,7 @@ pub data EdgeCase (i j : Model) (P : ℕ → Type 0) (e : ℕ) : Type 0 where
       → ((f : ℕ) → Alike (edgeAt j e) (edgeAt j f) → f ≡ e) → EdgeCase i j P e
 
 pub record Change (i j : Model) (P : ℕ → Type 0) : Type 0 where
-  pub sameRoom : j .K ≡ i .K
+  pub sameLimits : limitsOf j ≡ limitsOf i
   pub staying : (n : ℕ) → P n → Stays i j P n
   pub shapes : (n : ℕ) → ShapeCase i j P n
   pub tables : (t : ℕ) (es : List Entry) → tableAt j t ≡ used es → (tableAt i t ≡ used es) ⊎ GoodTable (j .K) es
@@ -290,7 +290,7 @@ module _ (i j : Model) (P : ℕ → Type 0) (sound : Sound i) (c : Change i j P)
   a-table t es q = go (c .tables t es q)
     where
       go : (tableAt i t ≡ used es) ⊎ GoodTable (j .K) es → GoodTable (j .K) es
-      go (inl e) = rw (c .sameRoom) (sound .tables t es e)
+      go (inl e) = rw (ap (λ (l : Limits). l .K) (c .sameLimits)) (sound .tables t es e)
       go (inr g) = g
 
   pub change-sound : Sound j
@@ -378,13 +378,27 @@ pub kept-root : {i j : Model} {n : ℕ} → Kept i j n → root j n ≡ root i n
 unfolding root
 kept-root {n = n} k = ap (λ (ns : List ℕ). last ns n) (k .sameChain)
 
--- j is sound and keeps each shape that P holds of.
+-- j is sound, has the limits of i and keeps each shape that P holds of.
 pub record Keeps (i j : Model) (P : ℕ → Type 0) : Type 0 where
   pub isSound : Sound j
+  pub sameLimits : limitsOf j ≡ limitsOf i
   pub keeps : (n : ℕ) → P n → Kept i j n
 
 pub change-keeps : {i j : Model} {P : ℕ → Type 0} → Sound i → Change i j P → Keeps i j P
-change-keeps {i} {j} {P} s c = record { isSound = change-sound i j P s c; keeps = change-kept i j P s c }
+change-keeps {i} {j} {P} s c =
+    record {
+      isSound = change-sound i j P s c;
+      sameLimits = c .sameLimits;
+      keeps = change-kept i j P s c;
+    }
+
+pub keeps-self : {i : Model} {P : ℕ → Type 0} → Sound i → Keeps i i P
+keeps-self {i} s = record { isSound = s; sameLimits = refl; keeps = λ n p. kept-self i n }
+
+-- Fewer shapes are kept too.
+pub keeps-fewer : {i j : Model} {P Q : ℕ → Type 0} → ((n : ℕ) → Q n → P n) → Keeps i j P → Keeps i j Q
+keeps-fewer h a =
+    record { isSound = a .isSound; sameLimits = a .sameLimits; keeps = λ n q. a .keeps n (h n q) }
 
 -- One change after another: each shape that is kept at first is kept by the next.
 pub keeps-again : {i j k : Model} {P Q : ℕ → Type 0} → Keeps i j P → ((n : ℕ) → P n → Kept i j n → Q n)
@@ -392,6 +406,7 @@ pub keeps-again : {i j k : Model} {P Q : ℕ → Type 0} → Keeps i j P → ((n
 keeps-again a h b =
     record {
       isSound = b .isSound;
+      sameLimits = b .sameLimits ∙ a .sameLimits;
       keeps = λ n p. kept-again (a .keeps n p) (b .keeps n (h n p (a .keeps n p)));
     }
 

@@ -9,9 +9,10 @@ use Prim.Native.Nat.{ℕ, _≤_}
 use native.Mathlib.Omega.{arith}
 use lib.ListN.{length}
 use Rattle.store.specs.Lists.{at}
-use Rattle.store.specs.Model.{Table, free, used, Model, noShape, freeShape, freeTable, freeEdge, shapeAt}
-use Rattle.store.specs.Model.{tableAt, edgeAt, putShape, putTable}
-use Rattle.store.specs.PlaceLaws.{same?, AfterPut, here, elsewhere, after-put, put-here, put-elsewhere}
+use Rattle.store.specs.Model.{Table, free, used, Limits, Model, limitsOf, noShape, freeShape, freeTable}
+use Rattle.store.specs.Model.{freeEdge, shapeAt, tableAt, edgeAt, putShape, putTable}
+use Rattle.store.specs.PlaceLaws.{length-put, same?, AfterPut, here, elsewhere, after-put, put-here}
+use Rattle.store.specs.PlaceLaws.{put-elsewhere}
 use Rattle.store.specs.ListLaws.{not-both}
 use Rattle.store.specs.declared.Shape.{Shape}
 use Rattle.store.specs.declared.Entry.{Entry}
@@ -37,7 +38,7 @@ pub record NewEdge (m j : Model) (c e : ℕ) : Type 0 where
 
 -- j is m with a new shape at c, whose table at t has the entries es.
 pub record Growth (m j : Model) (c t : ℕ) (es : List Entry) : Type 0 where
-  pub sameRoom : j .K ≡ m .K
+  pub sameLimits : limitsOf j ≡ limitsOf m
   -- the shape
   pub wasFree : freeShape (shapeAt m c) ≡ true
   pub otherShapes : (k : ℕ) → k ≢ c → shapeAt j k ≡ shapeAt m k
@@ -84,7 +85,9 @@ module _ (m j : Model) (sound : Sound m) (c t : ℕ) (es : List Entry) (g : Grow
   a-table k fs q = go (same? k t)
     where
       go : (k ≡ t) ⊎ (k ≢ t) → (tableAt m k ≡ used fs) ⊎ GoodTable (j .K) fs
-      go (inl e) = let same : fs ≡ es = cc (g .table) in inr (rw (same, g .sameRoom) (g .good))
+      go (inl e) =
+          let same : fs ≡ es = cc (g .table) in
+          inr (rw (same, ap (λ (l : Limits). l .K) (g .sameLimits)) (g .good))
       go (inr e) = inl (sym (g .otherTables k e) ∙ q)
 
   a-user : (k : ℕ) → freeTable (tableAt j k) ≡ false → User j k
@@ -113,7 +116,7 @@ module _ (m j : Model) (sound : Sound m) (c t : ℕ) (es : List Entry) (g : Grow
   pub growth-change : Change m j (Used m)
   growth-change =
       record {
-        sameRoom = g .sameRoom;
+        sameLimits = g .sameLimits;
         staying = λ k u. record {
           wasUsed = u;
           previous = previous-used m j sound k u;
@@ -197,7 +200,7 @@ module _ (m : Model) (sound : Sound m) (n t : ℕ) (es : List Entry) (s : Shape)
   unfolding shapeAt tableAt edgeAt putShape putTable
   fresh-growth =
       record {
-        sameRoom = refl;
+        sameLimits = simp length-put;
         wasFree = shapePlace .wasFree;
         otherShapes = λ k ne. put-elsewhere ne (shape-at k);
         isSound = rw (put-here (shape-at n)) new-sound;

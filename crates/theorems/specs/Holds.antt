@@ -8,7 +8,7 @@ use native.Mathlib.Omega.{arith}
 use borrow.Author.Tests.{leb-false}
 use lib.Dec.{leb}
 use Rattle.store.specs.Model.{Model, noShape, freeShape, shapeAt, tableAt, edgeAt, putShape}
-use Rattle.store.specs.PlaceLaws.{at-inside, AfterPut, here, elsewhere, after-put}
+use Rattle.store.specs.PlaceLaws.{length-put, at-inside, AfterPut, here, elsewhere, after-put}
 use Rattle.store.specs.ListLaws.{not-both}
 use Rattle.store.specs.declared.Shape.{Shape}
 use Rattle.rules.specs.declared.ChangeTransitionAction.{ChangeTransitionAction}
@@ -57,7 +57,7 @@ module _ (m : Model) (sound : Sound m) (n : ℕ) (u : Used m n) where
     unfolding putShape tableAt edgeAt
     core-change =
         record {
-          sameRoom = refl;
+          sameLimits = simp length-put;
           staying = λ k v. record {
             wasUsed = v;
             previous = previous-used m (putShape m n s) sound k v;

@@ -15,7 +15,7 @@ use Rattle.slot.specs.Attributes.{goodAttributes}
 use Rattle.store.specs.Lists.{at, put}
 use Rattle.store.specs.Model.{Table, free, used, Model, noShape, noEdge, freeShape, freeTable, freeEdge}
 use Rattle.store.specs.Model.{shapeAt, tableAt, putShape, putTable, putEdge}
-use Rattle.store.specs.PlaceLaws.{at-inside, at-put-other, at-put-same}
+use Rattle.store.specs.PlaceLaws.{length-put, at-inside, at-put-other, at-put-same}
 use Rattle.store.specs.ListLaws.{Decided, and-both, both-and, either, not-both}
 use Rattle.store.specs.declared.Shape.{Shape}
 use Rattle.store.specs.declared.Entry.{Entry}
@@ -80,6 +80,7 @@ module _ (m : Model) (sound : Sound m) (n : ℕ) (t : Step) (ready : Ready m n t
   own es begins good enough stepped =
       let inside = at-inside freeTable (m .tables) (s .table) free refl (sound .shapes n in-use .tableUsed) in
       record {
+        sameCount = length-put (m .tables) (s .table) (used es);
         table = at-put-same (m .tables) (s .table) (used es) free (inside .0) (inside .1);
         otherTables = λ k ne. at-put-other (m .tables) (s .table) k (used es) free ne;
         longer = record { inUse = λ u. refl; begins = begins };
@@ -105,6 +106,7 @@ module _ (m : Model) (sound : Sound m) (n : ℕ) (t : Step) (ready : Ready m n t
         its = es;
         gave = sym (same-given (b .below));
         laid = record {
+          sameCount = length-put (m .tables) p (used es);
           table = at-put-same (m .tables) p (used es) free (u .low) (u .high);
           otherTables = λ k ne. at-put-other (m .tables) p k (used es) free ne;
           longer = free-longer (tableAt m p) es (u .wasFree);
@@ -204,6 +206,7 @@ table-given m sound n (prototype q) ready room y e =
       its = whole;
       gave = sym (same-given e);
       laid = record {
+        sameCount = refl;
         table = its;
         otherTables = λ k ne. refl;
         longer = rw (← its) (longer-same (tableAt m (s .table)));

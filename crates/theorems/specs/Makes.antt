@@ -53,6 +53,7 @@ module _ (m j : Model) (keeps : Keeps m j (Used m)) (n : ℕ) (t : Step) where
         table = g .table;
         stands = g .stands ∙ ap (λ (s : Shape). childShape n s t (g .table)) (k .sameCore);
         itsEntries = g .itsEntries ∙ ap (stepEntries t) (k .sameEntries);
+        itsStep = g .itsStep;
         wasFree = go (either (freeShape (shapeAt m (y .1))));
         keeps = keeps-again keeps (λ x v kept. kept-used v kept) (g .keeps);
       }

@@ -8,6 +8,7 @@ use native.Mathlib.Omega.{arith}
 use borrow.Author.Tests.{eqb-false}
 use lib.Dec.{eqb}
 use Rattle.slot.specs.If.{if_then_else_}
+use lib.ListN.{length-map}
 use Rattle.store.specs.Model.{noEdge, putShape, Model, shapeAt, tableAt, edgeAt}
 use Rattle.store.specs.ListLaws.{Decided, not-both, either}
 use Rattle.store.specs.declared.Counters.{Counters}
@@ -38,7 +39,7 @@ module _ (m : Model) (sound : Sound m) (n kind : ℕ) where
   unfolding shapeAt tableAt edgeAt
   prune-change =
       record {
-        sameRoom = refl;
+        sameLimits = simp length-map;
         staying = λ k u. record {
           wasUsed = u;
           previous = previous-used m less sound k u;

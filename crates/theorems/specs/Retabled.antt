@@ -7,10 +7,10 @@ use mathlib.Core.Path.{_≡_, refl, sym, _∙_, ap}
 use Prim.Native.Nat.{ℕ}
 use native.Mathlib.Omega.{arith}
 use lib.ListN.{length}
-use Rattle.store.specs.Model.{free, putShape, putTable, used, Model, freeShape, freeTable, shapeAt, tableAt}
-use Rattle.store.specs.Model.{edgeAt}
+use Rattle.store.specs.Model.{free, putShape, putTable, used, Limits, Model, limitsOf, freeShape, freeTable}
+use Rattle.store.specs.Model.{shapeAt, tableAt, edgeAt}
 use Rattle.store.specs.Lists.{at, put}
-use Rattle.store.specs.PlaceLaws.{same?, at-inside, AfterPut, after-put, put-here, put-elsewhere}
+use Rattle.store.specs.PlaceLaws.{length-put, same?, at-inside, AfterPut, after-put, put-here, put-elsewhere}
 use Rattle.store.specs.ListLaws.{Decided, either, not-both}
 use Rattle.store.specs.declared.Shape.{Shape}
 use Rattle.store.specs.declared.Entry.{Entry}
@@ -24,7 +24,7 @@ use Rattle.theorems.specs.Frame.{change-keeps, same-edge}
 
 -- j is m with other words for the unique shape at n, and the entries es in its table.
 pub record Retabled (m j : Model) (n : ℕ) (es : List Entry) : Type 0 where
-  pub sameRoom : j .K ≡ m .K
+  pub sameLimits : limitsOf j ≡ limitsOf m
   -- the shape
   pub wasUnique : unique (shapeAt m n) ≡ true
   pub isUnique : unique (shapeAt j n) ≡ true
@@ -98,7 +98,9 @@ module _ (m j : Model) (sound : Sound m) (n : ℕ) (es : List Entry) (r : Retabl
   a-table t fs q = go (same? t T)
     where
       go : (t ≡ T) ⊎ (t ≢ T) → (tableAt m t ≡ used fs) ⊎ GoodTable (j .K) fs
-      go (inl e) = let same : fs ≡ es = cc (r .table) in inr (rw (same, r .sameRoom) (r .good))
+      go (inl e) =
+          let same : fs ≡ es = cc (r .table) in
+          inr (rw (same, ap (λ (l : Limits). l .K) (r .sameLimits)) (r .good))
       go (inr e) = inl (sym (r .otherTables t e) ∙ q)
 
   a-user : (t : ℕ) → freeTable (tableAt j t) ≡ false → User j t
@@ -118,7 +120,7 @@ module _ (m j : Model) (sound : Sound m) (n : ℕ) (es : List Entry) (r : Retabl
   retabled-change : Change m j (Others m n)
   retabled-change =
       record {
-        sameRoom = r .sameRoom;
+        sameLimits = r .sameLimits;
         staying = λ k p. record {
           wasUsed = p .0;
           previous = λ c.
@@ -159,7 +161,7 @@ module _ (m : Model) (sound : Sound m) (n : ℕ) (isUnique : unique (shapeAt m n
   unfolding shapeAt tableAt edgeAt putTable
   table-put whole =
       record {
-        sameRoom = refl;
+        sameLimits = simp length-put;
         wasUnique = isUnique;
         isUnique = isUnique;
         otherShapes = λ k ne. refl;
@@ -180,7 +182,7 @@ module _ (m : Model) (sound : Sound m) (n : ℕ) (isUnique : unique (shapeAt m n
   both-put s still fit =
       let here-it-is = put-here (shape-put m sound n is-used s n) in
       record {
-        sameRoom = refl;
+        sameLimits = simp length-put;
         wasUnique = isUnique;
         isUnique = rw here-it-is still;
         otherShapes = λ k ne. put-elsewhere ne (shape-put m sound n is-used s k);

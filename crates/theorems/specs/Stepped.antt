@@ -17,27 +17,30 @@ use Rattle.store.specs.ListLaws.{and-both, both-and, Decided, either, not-both}
 use Rattle.store.specs.declared.Shape.{Shape}
 use Rattle.store.specs.declared.Entry.{Entry}
 use Rattle.store.specs.declared.Edge.{Edge}
-use Rattle.rules.specs.Shapes.{has, pairs, shared, entries}
+use Rattle.rules.specs.Shapes.{has, pairs, shared, isChild, entries}
 use Rattle.rules.specs.Refusals.{ok}
 use Rattle.rules.specs.Settled.{same-given}
 use Rattle.rules.specs.Steps.{Step, insert, configure, prototype, edgeOf, edgeKind, mayStep, stepEntries}
 use Rattle.rules.specs.Steps.{stepPrototype, alike, dead, Placed, pruned, make, along, step}
 use Rattle.rules.specs.Sound.{stepOf}
 use Rattle.rules.specs.Sweep.{deadened}
+use Rattle.rules.specs.Trails.{madeBy}
 use Rattle.theorems.specs.Facts.{Used, Alike, Sound, shared-used, used-place}
 use Rattle.theorems.specs.TestsSay.{alike-is, is-alike}
+use Rattle.theorems.specs.FactsSound.{its-edge}
 use Rattle.theorems.specs.Entries.{led-to}
-use Rattle.theorems.specs.Frame.{Keeps, kept-self}
+use Rattle.theorems.specs.Frame.{Keeps, keeps-self}
 use Rattle.theorems.specs.Prunes.{pruned-keeps, pruned-edge}
 use Rattle.theorems.specs.Child.{Legal, Ready, Grown}
 use Rattle.theorems.specs.Makes.{edge-not-free, legal-again, grown-again, make-keeps}
 
--- What a step leaves: a child of n with the keys, attributes and prototype that the step leads to.
+-- What a step leaves: a child of n by that step, with the keys, attributes and prototype that it leads to.
 pub record Took (m : Model) (n : ℕ) (t : Step) (y : Placed) : Type 0 where
   pub keeps : Keeps m (y .0) (Used m)
   pub isShared : shared (shapeAt (y .0) (y .1)) ≡ true
   pub previous : shapeAt (y .0) (y .1) .previous ≡ n
   pub oneMore : shapeAt (y .0) (y .1) .transitions ≡ shapeAt m n .transitions + 1
+  pub itsStep : madeBy (y .0) (y .1) ≡ t
   pub samePairs :
       pairs (entries (y .0) (shapeAt (y .0) (y .1))) ≡ pairs (stepEntries t (entries m (shapeAt m n)))
   pub itsPrototype : shapeAt (y .0) (y .1) .prototype ≡ stepPrototype t (shapeAt m n .prototype)
@@ -49,6 +52,7 @@ grown-took m n t y g =
       isShared = ap shared (g .stands);
       previous = ap (λ (s : Shape). s .previous) (g .stands);
       oneMore = ap (λ (s : Shape). s .transitions) (g .stands);
+      itsStep = g .itsStep;
       samePairs = ap pairs (g .itsEntries);
       itsPrototype = ap (λ (s : Shape). s .prototype) (g .stands);
     }
@@ -111,7 +115,8 @@ module _ (m : Model) (sound : Sound m) (n : ℕ) (t : Step) (legal : Legal m n t
       let parent : x .parent ≡ n = sym (ap (λ (y : Edge). y .parent) l) in
       let previous = to .previous ∙ parent in
       let some = ne-eqb (c .previous) 0 (λ z. used-place m n is-used (sym previous ∙ z)) in
-      let k = sound .shapes (x .child) used .child (both-and (to .isShared) (rw some)) in
+      let child : isChild c ≡ true = both-and (to .isShared) (rw some) in
+      let k = sound .shapes (x .child) used .child child in
       let itsEdge = k .onlyEdge e refl in
       let stepped = rw (← itsEdge) at (k .stepped) in
       let p = shapeAt m (c .previous) in
@@ -119,10 +124,11 @@ module _ (m : Model) (sound : Sound m) (n : ℕ) (t : Step) (legal : Legal m n t
       let mayIts = rw previous at (led .may) in
       let same = same-step n (c .step) t x (entries m (shapeAt m n)) l (to .kindFits) (legal .may) mayIts in
       record {
-        keeps = record { isSound = sound; keeps = λ q v. kept-self m q };
+        keeps = keeps-self sound;
         isShared = to .isShared;
         previous = previous;
         oneMore = rw previous at (k .oneMore);
+        itsStep = rw (its-edge m sound (x .child) used child, ← itsEdge) same;
         samePairs = rw (same, previous) at (led .samePairs);
         itsPrototype = rw (same, previous) at (led .itsPrototype);
       }

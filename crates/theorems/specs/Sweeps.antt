@@ -6,7 +6,7 @@ use mathlib.Core.Logic.{inl, inr, _≢_}
 use mathlib.Core.Path.{_≡_, sym, _∙_, ap}
 use Prim.Native.Nat.{ℕ}
 use borrow.Author.Tests.{ne-eqb}
-use Rattle.store.specs.Model.{free, used, Limits, Model, noShape, freeShape, freeTable, freeEdge, shapeAt}
+use Rattle.store.specs.Model.{free, used, Model, noShape, freeShape, freeTable, freeEdge, shapeAt}
 use Rattle.store.specs.Model.{tableAt, edgeAt}
 use Rattle.store.specs.ListLaws.{Decided, both-and, either, not-both}
 use Rattle.store.specs.declared.Shape.{Shape}
@@ -100,7 +100,7 @@ module _ {P : ℕ → Type 0} {m j : Model} (sound : Sound m) (closed : Closed m
   sweep-change : Change m j P
   sweep-change =
       record {
-        sameRoom = ap (λ (l : Limits). l .K) (w .limits);
+        sameLimits = w .limits;
         staying = λ n p. record {
           wasUsed = closed .isUsed n p;
           previous = closed .previous n p;

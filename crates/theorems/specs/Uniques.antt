@@ -11,7 +11,7 @@ use lib.Dec.{eqb}
 use lib.ListN.{length}
 use lib.Seq.{take-all}
 use Rattle.slot.specs.Attributes.{goodAttributes, sameWidth}
-use Rattle.store.specs.Model.{used, Model, shapeAt, tableAt, putShape, putTable}
+use Rattle.store.specs.Model.{used, Limits, Model, shapeAt, tableAt, putTable}
 use Rattle.store.specs.ListLaws.{and-both, Decided, either, not-both}
 use Rattle.store.specs.declared.Shape.{Shape}
 use Rattle.store.specs.declared.Entry.{Entry}
@@ -27,9 +27,14 @@ use Rattle.rules.specs.Unique.{emptied, replaced, insertUnique, removeUnique, c
 use Rattle.theorems.specs.Facts.{Used, GoodTable, Sound, unique-used, used-table, shared-not-unique}
 use Rattle.theorems.specs.Entries.{good-appended, length-appended, good-configured, length-configured}
 use Rattle.theorems.specs.Entries.{good-changed, good-without, length-without, length-laid}
-use Rattle.theorems.specs.Frame.{Keeps, keeps-again, kept-used, kept-self}
+use Rattle.theorems.specs.Frame.{Keeps, keeps-self, keeps-again, kept-used}
 use Rattle.theorems.specs.Grow.{FreshShape, fresh-keeps, fresh-unique}
 use Rattle.theorems.specs.Retabled.{Others, retabled-keeps, table-put, both-put}
+
+-- What a rule for the unique shape at n leaves: a unique shape as its result, and every other shape kept.
+pub record Acted (m : Model) (n : ℕ) (y : Placed) : Type 0 where
+  pub keeps : Keeps m (y .0) (Others m n)
+  pub isUnique : unique (shapeAt (y .0) (y .1)) ≡ true
 
 module _ (m : Model) (sound : Sound m) (n : ℕ) (isUnique : unique (shapeAt m n) ≡ true) where
   abbrev s : Shape
@@ -83,7 +88,7 @@ module _ (m : Model) (sound : Sound m) (n : ℕ) (isUnique : unique (shapeAt m n
 
   -- "Insert and equal-width change act on the same number."
   pub insert-unique-keeps : (k a : ℕ) → goodKey k ≡ true → goodAttributes a ≡ true → has k es ≡ false
-      → (y : Placed) → insertUnique m n k a ≡ ok y → Keeps m (y .0) (Others m n)
+      → (y : Placed) → insertUnique m n k a ≡ ok y → Acted m n y
   unfolding insertUnique
   insert-unique-keeps k a key low absent y e =
       let (few, given) = guard-passed KeysFull (eqb (s .properties) (m .K)) _ y e in
@@ -97,10 +102,11 @@ module _ (m : Model) (sound : Sound m) (n : ℕ) (isUnique : unique (shapeAt m n
       } in
       let fit = recounted (s .properties + 1) (length fs) (omega (arith, length-appended es k a)) in
       let r = both-put m sound n isUnique fs known (withProperties s (s .properties + 1)) isUnique fit in
-      rw (← same-given given, ← whole) (retabled-keeps m _ sound n fs r)
+      rw (← same-given given, ← whole)
+      record { keeps = retabled-keeps m _ sound n fs r; isUnique = r .isUnique }
 
   pub change-same-keeps : (k a : ℕ) → goodAttributes a ≡ true → sameWidth (attributesIn k es) a ≡ true
-      → Keeps m (putTable m (s .table) (used (configured es k a))) (Others m n)
+      → Acted m n (putTable m (s .table) (used (configured es k a)), n)
   change-same-keeps k a low wide =
       let fit = good .room in
       let long = count in
@@ -109,7 +115,8 @@ module _ (m : Model) (sound : Sound m) (n : ℕ) (isUnique : unique (shapeAt m n
         good = good-configured es k a (good .good) low wide;
         room = omega arith;
       } in
-      retabled-keeps m _ sound n _ (table-put m sound n isUnique (configured es k a) known (omega arith))
+      let r = table-put m sound n isUnique (configured es k a) known (omega arith) in
+      record { keeps = retabled-keeps m _ sound n _ r; isUnique = r .isUnique }
 
   -- "the old one keeps its number with no keys"
   pub emptied-keeps : (p : ℕ) → Keeps m (emptied m n p) (Others m n)
@@ -121,22 +128,22 @@ module _ (m : Model) (sound : Sound m) (n : ℕ) (isUnique : unique (shapeAt m n
       let r = both-put m sound n isUnique [] none (uniqueShape (s .holds) 0 p (s .table)) refl fit in
       retabled-keeps m _ sound n [] r
 
-  emptied-room : (p : ℕ) → emptied m n p .K ≡ m .K
-  unfolding emptied putShape putTable
-  emptied-room p = refl
-
   -- "Removal and width change give a new shape", and so does a change of prototype.
   replaced-keeps : (p q : ℕ) (fs : List Entry) → goodEntries fs ≡ true → length fs ≤ length es
-      → (y : Placed) → replaced (emptied m n p) q fs ≡ ok y → Keeps m (y .0) (Others m n)
+      → (y : Placed) → replaced (emptied m n p) q fs ≡ ok y → Acted m n y
   replaced-keeps p q fs known few y e =
       let first = emptied-keeps p in
       let fit = good .room in
+      let room = ap (λ (l : Limits). l .K) (first .sameLimits) in
       let table : GoodTable (m .K) fs = record { good = known; room = omega arith } in
       let next = fresh-keeps (emptied m n p) (first .isSound) (uniqueShape 0 (length fs) q) fs
-      (λ t. fresh-unique 0 (length fs) q t (omega arith)) (rw (emptied-room p) table) y e in
-      keeps-again first (λ k o kept. kept-used (o .0) kept) (next .keeps)
+      (λ t. fresh-unique 0 (length fs) q t (omega arith)) (rw room table) y e in
+      record {
+        keeps = keeps-again first (λ k o kept. kept-used (o .0) kept) (next .keeps);
+        isUnique = ap unique (next .stands);
+      }
 
-  pub remove-unique-keeps : (k : ℕ) (y : Placed) → removeUnique m n k ≡ ok y → Keeps m (y .0) (Others m n)
+  pub remove-unique-keeps : (k : ℕ) (y : Placed) → removeUnique m n k ≡ ok y → Acted m n y
   unfolding removeUnique
   remove-unique-keeps k y e = go (either (has k es))
     where
@@ -146,13 +153,17 @@ module _ (m : Model) (sound : Sound m) (n : ℕ) (isUnique : unique (shapeAt m n
       short : length fs ≤ length es
       short = omega (arith, length-laid 0 (without es k), length-without es k)
 
-      go : Decided (has k es) → Keeps m (y .0) (Others m n)
+      go : Decided (has k es) → Acted m n y
       go (inl q) = replaced-keeps 0 (s .prototype) fs (good-without es k (good .good)) short y (rw q at e)
       go (inr q) =
-          rw (← same-given (rw q at e)) record { isSound = sound; keeps = λ x p. kept-self m x }
+          rw (← same-given (rw q at e))
+          record {
+            keeps = keeps-self sound;
+            isUnique = isUnique;
+          }
 
   pub change-unique-keeps : (k a : ℕ) → goodAttributes a ≡ true
-      → (y : Placed) → changeUnique m n k a ≡ ok y → Keeps m (y .0) (Others m n)
+      → (y : Placed) → changeUnique m n k a ≡ ok y → Acted m n y
   unfolding changeUnique
   change-unique-keeps k a low y e = go (either (sameWidth (attributesIn k es) a))
     where
@@ -162,10 +173,10 @@ module _ (m : Model) (sound : Sound m) (n : ℕ) (isUnique : unique (shapeAt m n
       short : length fs ≤ length es
       short = omega (arith, length-laid 0 (configured es k a), length-configured es k a)
 
-      go : Decided (sameWidth (attributesIn k es) a) → Keeps m (y .0) (Others m n)
+      go : Decided (sameWidth (attributesIn k es) a) → Acted m n y
       go (inl q) = rw (← same-given (rw q at e)) (change-same-keeps k a low q)
       go (inr q) = replaced-keeps 0 (s .prototype) fs (good-changed es k a (good .good) low) short y (rw q at e)
 
-  pub prototype-unique-keeps : (p : ℕ) (y : Placed) → prototypeUnique m n p ≡ ok y → Keeps m (y .0) (Others m n)
+  pub prototype-unique-keeps : (p : ℕ) (y : Placed) → prototypeUnique m n p ≡ ok y → Acted m n y
   unfolding prototypeUnique
   prototype-unique-keeps p y e = replaced-keeps (s .prototype) p es (good .good) (omega arith) y e

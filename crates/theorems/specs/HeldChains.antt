@@ -33,7 +33,7 @@ behind m zero n = n
 behind m (suc k) n = behind m k (shapeAt m n .previous)
 
 -- A shape in use that previous links lead to from a held one; 0 links lead to the held one itself.
-pub record OnChain (m : Model) (n : ℕ) : Type 0 where
+pub record OnHeldChain (m : Model) (n : ℕ) : Type 0 where
   pub isUsed : Used m n
   pub holder : ℕ
   pub isHeld : held (shapeAt m holder) ≡ true
@@ -59,8 +59,8 @@ walks m = map (walk m) (numbered 1 (m .shapes))
 
 module _ (m : Model) (sound : Sound m) where
   -- A held shape is in use, so it is on its own chain.
-  held-on-chain : (n : ℕ) → held (shapeAt m n) ≡ true → OnChain m n
-  held-on-chain n h =
+  pub held-on-its-chain : (n : ℕ) → held (shapeAt m n) ≡ true → OnHeldChain m n
+  held-on-its-chain n h =
       let u = go (either (freeShape (shapeAt m n))) in
       record { isUsed = u; holder = n; isHeld = h; links = 0; leadHere = refl }
     where
@@ -69,7 +69,7 @@ module _ (m : Model) (sound : Sound m) where
       go (inr u) = u
 
   -- One link more leads to its previous.
-  chain-closed : Closed m (OnChain m)
+  chain-closed : Closed m (OnHeldChain m)
   chain-closed =
       record {
         isUsed = λ n c. c .isUsed;
@@ -143,29 +143,29 @@ module _ (m : Model) (sound : Sound m) where
         rw (passes k (shapeAt m h .previous) count p less v e) (or-true (eqb n h))
 
     -- A sweep's walks reach the shapes on the chains of the held ones.
-    reached-on-chain : (any (eqb n) (reached m) ≡ true) ↔ OnChain m n
+    reached-on-chain : (any (eqb n) (reached m) ≡ true) ↔ OnHeldChain m n
     unfolding reached chain shapeAt
     reached-on-chain = (to, from)
       where
         walk-at : (h : ℕ) → any (eqb n) (at (walks m) h []) ≡ any (eqb n) (walk m (h, shapeAt m h))
         walk-at h = ap (any (eqb n)) (at-map-numbered (walk m) noShape [] (λ k. refl) (m .shapes) h)
 
-        to : any (eqb n) (reached m) ≡ true → OnChain m n
+        to : any (eqb n) (reached m) ≡ true → OnHeldChain m n
         to e =
             let (h, p) = any-place (any (eqb n)) [] refl (walks m) (sym (any-flat (eqb n) (walks m)) ∙ e) in
             go h (held (shapeAt m h)) refl (sym (walk-at h) ∙ p)
           where
             go : (h : ℕ) (b : Bool) → held (shapeAt m h) ≡ b → any (eqb n) (if b then chain m h else []) ≡ true
-                → OnChain m n
+                → OnHeldChain m n
             go h true q e =
-                let (k, u, there) = passed (shapeAt m h .transitions) h (held-on-chain h q .isUsed) refl e in
+                let (k, u, there) = passed (shapeAt m h .transitions) h (held-on-its-chain h q .isUsed) refl e in
                 record { isUsed = u; holder = h; isHeld = q; links = k; leadHere = there }
             go h false q e = absurd (false≢true e)
 
-        from : OnChain m n → any (eqb n) (reached m) ≡ true
+        from : OnHeldChain m n → any (eqb n) (reached m) ≡ true
         from c =
             let h = c .holder in
-            let u = held-on-chain h (c .isHeld) .isUsed in
+            let u = held-on-its-chain h (c .isHeld) .isUsed in
             let way = passes (c .links) h (shapeAt m h .transitions) u refl (c .isUsed) (c .leadHere) in
             let its : any (eqb n) (walk m (h, shapeAt m h)) ≡ true = rw (c .isHeld) way in
             any-flat (eqb n) (walks m) ∙ place-any (any (eqb n)) [] refl (walks m) h (walk-at h ∙ its)
@@ -173,28 +173,28 @@ module _ (m : Model) (sound : Sound m) where
   -- ## What a sweep keeps
 
   -- The shapes on the chains of the held ones are the set that stays.
-  pub swept-on-chain : Swept (OnChain m) m (swept m)
+  pub swept-on-chain : Swept (OnHeldChain m) m (swept m)
   unfolding swept
-  swept-on-chain = swept-to (λ n. any (eqb n) (reached m)) (OnChain m) m reached-on-chain
+  swept-on-chain = swept-to (λ n. any (eqb n) (reached m)) (OnHeldChain m) m reached-on-chain
 
   -- A sweep leaves a sound model and keeps the shapes on the chains of the held ones,
-  pub swept-keeps : Keeps m (swept m) (OnChain m)
+  pub swept-keeps : Keeps m (swept m) (OnHeldChain m)
   swept-keeps = sweep-keeps sound chain-closed swept-on-chain
 
   -- with them every held shape, shared or unique.
   pub held-kept : (n : ℕ) → held (shapeAt m n) ≡ true → Kept m (swept m) n
-  held-kept n h = swept-keeps .keeps n (held-on-chain n h)
+  held-kept n h = swept-keeps .keeps n (held-on-its-chain n h)
 
 -- ## What a sweep frees
 
 -- What document 01 says of a sweep of m that leaves j.
 pub record Frees (m j : Model) : Type 0 where
   -- "A sweep frees exactly the shapes not held and not on the previous chain of a held one",
-  pub shapes : (n : ℕ) → Used m n → Used j n ↔ ((held (shapeAt m n) ≡ true) ⊎ OnChain m n)
+  pub shapes : (n : ℕ) → Used m n → Used j n ↔ ((held (shapeAt m n) ≡ true) ⊎ OnHeldChain m n)
   -- "their tables when unused"
   pub tables : (t : ℕ) → freeTable (tableAt m t) ≡ false → (tableAt j t ≡ free) ↔ ¬ (User j t)
   -- "and their own edges; other edges to a freed shape become dead".
-  pub edges : (e : ℕ) → EdgeAfterSweep (OnChain m) (edgeAt m e) (edgeAt j e)
+  pub edges : (e : ℕ) → EdgeAfterSweep (OnHeldChain m) (edgeAt m e) (edgeAt j e)
   -- "It answers how many shapes and tables it freed."
   pub answer : perform m sweep
       ≡ ok (
@@ -220,16 +220,16 @@ sweep-frees m sound =
     j : Model
     j = swept m
 
-    w : Swept (OnChain m) m j
+    w : Swept (OnHeldChain m) m j
     w = swept-on-chain m sound
 
-    a-shape : (n : ℕ) → Used m n → AfterSweep (OnChain m n) noShape (shapeAt m n) (shapeAt j n)
-        → Used j n ↔ ((held (shapeAt m n) ≡ true) ⊎ OnChain m n)
+    a-shape : (n : ℕ) → Used m n → AfterSweep (OnHeldChain m n) noShape (shapeAt m n) (shapeAt j n)
+        → Used j n ↔ ((held (shapeAt m n) ≡ true) ⊎ OnHeldChain m n)
     a-shape n u (left c e) = (λ v. inr c, λ h. ap freeShape e ∙ u)
     a-shape n u (gone away e) = (λ v. not-both (ap freeShape e) v, λ h. absurd (away (either-way h)))
       where
-        either-way : (held (shapeAt m n) ≡ true) ⊎ OnChain m n → OnChain m n
-        either-way (inl h) = held-on-chain m sound n h
+        either-way : (held (shapeAt m n) ≡ true) ⊎ OnHeldChain m n → OnHeldChain m n
+        either-way (inl h) = held-on-its-chain m sound n h
         either-way (inr c) = c
 
     a-table : (t : ℕ) → freeTable (tableAt m t) ≡ false
@@ -239,11 +239,11 @@ sweep-frees m sound =
         (λ z. not-both (ap freeTable z) (ap freeTable e ∙ u), λ unused. absurd (unused user))
     a-table t u (gone away e) = (λ z. away, λ z. e)
 
-    its-holds : (n : ℕ) → AfterSweep (OnChain m n) noShape (shapeAt m n) (shapeAt j n)
+    its-holds : (n : ℕ) → AfterSweep (OnHeldChain m n) noShape (shapeAt m n) (shapeAt j n)
         → shapeAt j n .holds ≡ shapeAt m n .holds
     its-holds n (left c e) = ap (λ (s : Shape). s .holds) e
     its-holds n (gone away e) = ap (λ (s : Shape). s .holds) e ∙ sym (unheld (same? (shapeAt m n .holds) 0))
       where
         unheld : (shapeAt m n .holds ≡ 0) ⊎ (shapeAt m n .holds ≢ 0) → shapeAt m n .holds ≡ 0
         unheld (inl z) = z
-        unheld (inr some) = absurd (away (held-on-chain m sound n (rw (ne-eqb (shapeAt m n .holds) 0 some))))
+        unheld (inr some) = absurd (away (held-on-its-chain m sound n (rw (ne-eqb (shapeAt m n .holds) 0 some))))

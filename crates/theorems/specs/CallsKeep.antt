@@ -1,0 +1,297 @@
+-- Every call on a sound model leaves a sound model, and keeps all shapes in use but those that it is made to
+-- change: the unique that it acts on, and what a sweep frees. Holds change by what the reply says.
+-- Assumes nothing.
+use mathlib.Core.Bool.{true, false, _&&_, not}
+use mathlib.Core.List.{[]}
+use mathlib.Core.Option.{Option, none, some}
+use mathlib.Core.Logic.{_⊎_, inl, inr, _≢_}
+use mathlib.Core.Path.{_≡_, refl, sym, ap}
+use Prim.Native.Nat.{ℕ, _+_, _<_}
+use native.Mathlib.Omega.{arith}
+use borrow.Author.Tests.{eqb-false, ne-eqb, not-false}
+use lib.Dec.{eqb, ltb}
+use lib.ListN.{length}
+use Rattle.slot.specs.Attributes.{goodAttributes}
+use Rattle.store.specs.Model.{Model, freeShape, shapeAt}
+use Rattle.store.specs.ListLaws.{both-and, Decided, either, not-both}
+use Rattle.store.specs.declared.Shape.{Shape}
+use Rattle.store.specs.declared.Entry.{Entry}
+use Rattle.rules.specs.declared.ChangeTransitionAction.{ChangeTransitionAction}
+use Rattle.rules.specs.declared.ChangeTransitionAction.the-variants.{Nothing}
+use Rattle.rules.specs.declared.Refusal.the-variants.{BadKey, BadAttributes, NoShape, Present, Absent, OutShort}
+use Rattle.rules.specs.Numbers.{goodKey}
+use Rattle.rules.specs.Shapes.{has, attributesIn, shared, unique, rootShape, uniqueShape}
+use Rattle.rules.specs.Refusals.{Got, ok, refused, _>>=_}
+use Rattle.rules.specs.Settled.{guard-passed, same-given}
+use Rattle.rules.specs.Steps.{Placed, fresh}
+use Rattle.rules.specs.Unique.{inserted, changed, removed, rebased}
+use Rattle.rules.specs.Sweep.{found, keyList}
+use Rattle.rules.specs.Calls.{Call, newRoot, newUnique, insertKey, changeKey, removeKey, changePrototype}
+use Rattle.rules.specs.Calls.{hold, release, previous, sweep, lookup, keysInto, prototypeOf, isShared}
+use Rattle.rules.specs.Calls.{transitionsOf, propertiesOf, Answer, Given, Reply, No, Yes, unheld, grant}
+use Rattle.rules.specs.Calls.{slotOf, actionFor, grantPrevious, perform, settle, call}
+use Rattle.theorems.specs.Facts.{Used, Sound, shared-used, shared-not-unique}
+use Rattle.theorems.specs.FactsSound.{facts-sound}
+use Rattle.theorems.specs.Frame.{Kept, Keeps, keeps-self, keeps-again, kept-used}
+use Rattle.theorems.specs.Holds.{release-keeps, grant-keeps}
+use Rattle.theorems.specs.Taken.{bind-passed}
+use Rattle.theorems.specs.Grow.{fresh-root, fresh-unique}
+use Rattle.theorems.specs.HeldChains.{OnHeldChain, held-on-its-chain, swept-keeps}
+use Rattle.theorems.specs.Made.{SharedAt, entriesAt, transitionsAt}
+use Rattle.theorems.specs.Quiet.{holdsAt, one, grantedBy, grant-holds, release-holds, sweep-holds}
+use Rattle.theorems.specs.Changes.{Untouched, Gives, no-entries, fresh-gives, may-act, inserted-gives}
+use Rattle.theorems.specs.Changes.{changed-gives, removed-gives, rebased-gives}
+
+-- ## Statements
+
+-- The shapes that a call keeps: all in use. But a change of a unique does not keep that one, and a sweep keeps
+-- the held ones and those on their previous chains.
+abbrev pub KeptBy : Model → Call → ℕ → Type 0
+KeptBy m newRoot = Used m
+KeptBy m newUnique = Used m
+KeptBy m (insertKey n k a) = Untouched m n
+KeptBy m (changeKey n k a) = Untouched m n
+KeptBy m (removeKey n k) = Untouched m n
+KeptBy m (changePrototype n p) = Untouched m n
+KeptBy m (hold n) = Used m
+KeptBy m (release n) = Used m
+KeptBy m (previous n) = Used m
+KeptBy m sweep = OnHeldChain m
+KeptBy m (lookup n k) = Used m
+KeptBy m (keysInto n out) = Used m
+KeptBy m (prototypeOf n) = Used m
+KeptBy m (isShared n) = Used m
+KeptBy m (transitionsOf n) = Used m
+KeptBy m (propertiesOf n) = Used m
+
+-- The place that a call takes a hold from, 0 for none.
+abbrev pub releasedBy : Call → ℕ
+releasedBy newRoot = 0
+releasedBy newUnique = 0
+releasedBy (insertKey n k a) = 0
+releasedBy (changeKey n k a) = 0
+releasedBy (removeKey n k) = 0
+releasedBy (changePrototype n p) = 0
+releasedBy (hold n) = 0
+releasedBy (release n) = n
+releasedBy (previous n) = 0
+releasedBy sweep = 0
+releasedBy (lookup n k) = 0
+releasedBy (keysInto n out) = 0
+releasedBy (prototypeOf n) = 0
+releasedBy (isShared n) = 0
+releasedBy (transitionsOf n) = 0
+releasedBy (propertiesOf n) = 0
+
+-- What the reply to a call says of the holds of the place n: one is granted if the answer gives n, and one is
+-- released if the call is `release n`; neither if the call is refused.
+abbrev pub granted : (n : ℕ) → Reply → ℕ
+granted n (No r) = 0
+granted n (Yes a) = one (grantedBy a) n
+
+abbrev pub released : (n : ℕ) → Call → Reply → ℕ
+released n c (No r) = 0
+released n c (Yes a) = one (releasedBy c) n
+
+-- What a call c on m with the reply r leaves.
+pub record Called (m : Model) (c : Call) (j : Model) (r : Reply) : Type 0 where
+  pub keeps : Keeps m j (KeptBy m c)
+  pub holds : (n : ℕ) → n ≢ 0 → holdsAt j n + released n c r ≡ holdsAt m n + granted n r
+
+-- ## Each call
+
+-- Place 0 is none.
+not-counted : (n : ℕ) → n ≢ 0 → one 0 n ≡ 0
+not-counted n place = rw (ne-eqb 0 n (λ e. place (sym e)))
+
+module _ (m : Model) (sound : Sound m) where
+  -- "A call that returns a shape adds one hold to it".
+  gives : (c : Call) → releasedBy c ≡ 0 → ((k : ℕ) → KeptBy m c k → Used m k)
+      → (action : ChangeTransitionAction) (x : Placed) → Gives m (KeptBy m c) x
+      → (y : Model × Answer) → grant action x ≡ ok y → Called m c (y .0) (Yes (y .1))
+  gives c quiet inUse action x g y e =
+      let s = g .keeps .isSound in
+      record {
+        keeps = keeps-again (g .keeps) (λ k p kept. kept-used (inUse k p) kept)
+            (grant-keeps (x .0) s (x .1) (g .isUsed) action y e (g .few));
+        holds = λ n place.
+            rw (quiet, not-counted n place)
+            (omega (arith, grant-holds (x .0) s (x .1) (g .isUsed) action y e n, g .sameHolds n));
+      }
+
+  -- The same of what a rule gives.
+  given : (c : Call) → releasedBy c ≡ 0 → ((k : ℕ) → KeptBy m c k → Used m k)
+      → (action : ChangeTransitionAction) (g : Got Placed) → ((x : Placed) → g ≡ ok x → Gives m (KeptBy m c) x)
+      → (y : Model × Answer) → (g >>= grant action) ≡ ok y → Called m c (y .0) (Yes (y .1))
+  given c quiet inUse action g rule y e =
+      let b = bind-passed g (grant action) y e in
+      gives c quiet inUse action (b .result) (rule (b .result) (b .gave)) y (b .below)
+
+  -- A hold of a shape that is there.
+  here-gives : (n : ℕ) → Used m n → transitionsAt m n < 1024 → Gives m (Used m) (m, n)
+  here-gives n u below =
+      record { keeps = keeps-self sound; sameHolds = λ k. refl; isUsed = u; few = λ full. omega arith }
+
+  previous-gives : (n : ℕ) → Used m n → eqb (shapeAt m n .previous) 0 ≡ false
+      → Gives m (Used m) (m, shapeAt m n .previous)
+  previous-gives n u notRoot = go (sound .shapes n u .words .state)
+    where
+      p : ℕ
+      p = shapeAt m n .previous
+
+      go : (shared (shapeAt m n) ≡ true) ⊎ (unique (shapeAt m n) ≡ true) → Gives m (Used m) (m, p)
+      go (inl h) =
+          let child = sound .shapes n u .child (both-and h (rw notRoot)) in
+          let most = sound .shapes n u .words .transitions in
+          let more = child .oneMore in
+          here-gives p (shared-used (shapeAt m p) (child .previousShared)) (omega arith)
+      go (inr r) = absurd (eqb-false p 0 notRoot (sound .shapes n u .words .unique r .previous))
+
+  -- A question leaves the model as it was.
+  asked : (c : Call) → releasedBy c ≡ 0 → (a : Answer) → grantedBy a ≡ 0
+      → (y : Model × Answer) → ok (m, a) ≡ ok y → Called m c (y .0) (Yes (y .1))
+  asked c quiet a nowhere y e =
+      rw (← same-given e) record { keeps = keeps-self sound; holds = λ n place. rw (quiet, nowhere) }
+
+  slot-grants : (o : Option Entry) → grantedBy (slotOf o) ≡ 0
+  slot-grants none = refl
+  slot-grants (some e) = refl
+
+  pub performed : (c : Call) (y : Model × Answer) → perform m c ≡ ok y → Called m c (y .0) (Yes (y .1))
+  unfolding perform
+  performed newRoot y e =
+      given newRoot refl (λ k u. u) Nothing (fresh m rootShape [])
+      (fresh-gives m sound rootShape [] fresh-root (λ t. refl) (λ t. refl) (λ t. refl) (no-entries m sound)) y e
+  performed newUnique y e =
+      given newUnique refl (λ k u. u) Nothing (fresh m (uniqueShape 0 0 0) [])
+      (fresh-gives m sound (uniqueShape 0 0 0) [] (λ t. fresh-unique 0 0 0 t (omega arith)) (λ t. refl)
+      (λ t. refl) (λ t. refl) (no-entries m sound)) y e
+  performed (insertKey n k a) y e =
+      let (key, e₁) = guard-passed BadKey (not (goodKey k)) _ y e in
+      let (low, e₂) = guard-passed BadAttributes (not (goodAttributes a)) _ y e₁ in
+      let (may, e₃) = guard-passed NoShape (unheld m n) _ y e₂ in
+      let (absent, e₄) = guard-passed Present (has k (entriesAt m n)) _ y e₃ in
+      given (insertKey n k a) refl (λ k p. p .0) Nothing (inserted m n k a)
+      (inserted-gives m sound n (may-act m sound n may) k a (not-false _ key) (not-false _ low) absent) y e₄
+  performed (changeKey n k a) y e =
+      let es = entriesAt m n in
+      let (key, e₁) = guard-passed BadKey (not (goodKey k)) _ y e in
+      let (low, e₂) = guard-passed BadAttributes (not (goodAttributes a)) _ y e₁ in
+      let (may, e₃) = guard-passed NoShape (unheld m n) _ y e₂ in
+      let (held, e₄) = guard-passed Absent (not (has k es)) _ y e₃ in
+      let acts = may-act m sound n may in
+      given (changeKey n k a) refl (λ k p. p .0) (actionFor (attributesIn k es) a) (changed m n k a)
+      (changed-gives m sound n acts k a (not-false _ key) (not-false _ low) (not-false _ held)) y e₄
+  performed (removeKey n k) y e =
+      let es = entriesAt m n in
+      let (key, e₁) = guard-passed BadKey (not (goodKey k)) _ y e in
+      let (may, e₂) = guard-passed NoShape (unheld m n) _ y e₁ in
+      let (holds, e₃) = guard-passed Absent (shared (shapeAt m n) && not (has k es)) _ y e₂ in
+      given (removeKey n k) refl (λ k p. p .0) Nothing (removed m n k)
+      (removed-gives m sound n (may-act m sound n may) k (λ h. not-false (has k es) (rw h at holds))) y e₃
+  performed (changePrototype n p) y e =
+      let (may, e₁) = guard-passed NoShape (unheld m n) _ y e in
+      given (changePrototype n p) refl (λ k p. p .0) Nothing (rebased m n p)
+      (rebased-gives m sound n (may-act m sound n may) p) y e₁
+  performed (hold n) y e =
+      let (may, e₁) = guard-passed NoShape (unheld m n) _ y e in
+      let acts = may-act m sound n may in
+      gives (hold n) refl (λ k u. u) Nothing (m, n) (here-gives n (acts .isUsed) (acts .below)) y e₁
+  performed (release n) y e =
+      let (may, e₁) = guard-passed NoShape (unheld m n) _ y e in
+      let acts = may-act m sound n may in
+      rw (← same-given e₁)
+      record {
+        keeps = release-keeps m sound n (acts .isUsed);
+        holds = λ k place.
+            rw (not-counted k place) (omega (arith, release-holds m sound n (acts .isUsed) (acts .isHeld) k));
+      }
+  performed (previous n) y e =
+      let (may, e₁) = guard-passed NoShape (unheld m n) _ y e in
+      go (may-act m sound n may .isUsed) e₁ (either (eqb (shapeAt m n .previous) 0))
+    where
+      go : Used m n → grantPrevious m (shapeAt m n .previous) ≡ ok y → Decided (eqb (shapeAt m n .previous) 0)
+          → Called m (previous n) (y .0) (Yes (y .1))
+      go u e (inl q) = asked (previous n) refl (Given 0 Nothing 0) refl y (rw q at e)
+      go u e (inr q) =
+          let p = shapeAt m n .previous in
+          gives (previous n) refl (λ k u. u) Nothing (m, p) (previous-gives n u q) y (rw q at e)
+  performed sweep y e =
+      rw (← same-given e)
+      record { keeps = swept-keeps m sound; holds = λ n place. rw (sweep-holds m sound n) }
+  performed (lookup n k) y e =
+      let (key, e₁) = guard-passed BadKey (not (goodKey k)) _ y e in
+      let o = found k (entriesAt m n) in
+      asked (lookup n k) refl (slotOf o) (slot-grants o) y (guard-passed NoShape (unheld m n) _ y e₁ .1)
+  performed (keysInto n out) y e =
+      let (may, e₁) = guard-passed NoShape (unheld m n) _ y e in
+      let short = ltb (length out) (length (keyList (entriesAt m n))) in
+      asked (keysInto n out) refl _ refl y (guard-passed OutShort short _ y e₁ .1)
+  performed (prototypeOf n) y e =
+      asked (prototypeOf n) refl _ refl y (guard-passed NoShape (unheld m n) _ y e .1)
+  performed (isShared n) y e =
+      asked (isShared n) refl _ refl y (guard-passed NoShape (unheld m n) _ y e .1)
+  performed (transitionsOf n) y e =
+      asked (transitionsOf n) refl _ refl y (guard-passed NoShape (unheld m n) _ y e .1)
+  performed (propertiesOf n) y e =
+      asked (propertiesOf n) refl _ refl y (guard-passed NoShape (unheld m n) _ y e .1)
+
+  -- Refused or not, a call leaves a sound model, keeps what it is not made to change and counts its holds.
+  pub called : (c : Call) → Called m c (call m c .0) (call m c .1)
+  unfolding call
+  called c = rw (facts-sound m sound .1) (go (perform m c) refl)
+    where
+      go : (g : Got (Model × Answer)) → perform m c ≡ g → Called m c (settle m g .0) (settle m g .1)
+      go (ok y) e = performed c y e
+      go (refused r) e = record { keeps = keeps-self sound; holds = λ n place. refl }
+
+-- "every call on a sound image" leaves "a sound image", over the model.
+pub call-sound : (m : Model) (c : Call) → Sound m → Sound (call m c .0)
+call-sound m c sound = called m sound c .keeps .isSound
+
+-- ## Held shapes
+
+abbrev pub HeldAt : Model → ℕ → Type 0
+HeldAt m n = shapeAt m n .holds ≢ 0
+
+module _ (m : Model) (sound : Sound m) (n : ℕ) (isHeld : HeldAt m n) where
+  pub held-used : Used m n
+  held-used = go (either (freeShape (shapeAt m n)))
+    where
+      go : Decided (freeShape (shapeAt m n)) → Used m n
+      go (inl f) = absurd (isHeld (ap (λ (s : Shape). s .holds) (sound .freeShapes n f)))
+      go (inr u) = u
+
+  held-stays : OnHeldChain m n
+  held-stays = held-on-its-chain m sound n (rw (ne-eqb (shapeAt m n .holds) 0 isHeld))
+
+  -- No sweep changes a held shape, shared or unique,
+  pub sweep-keeps-held : Kept m (call m sweep .0) n
+  sweep-keeps-held = called m sound sweep .keeps .keeps n held-stays
+
+  module _ (h : SharedAt m n) where
+    untouched : (k : ℕ) → Untouched m k n
+    untouched k =
+        (held-used, λ r e. not-both (rw (← e) at r) (shared-not-unique (shapeAt m n) h))
+
+    shared-kept : (c : Call) → KeptBy m c n
+    shared-kept newRoot = held-used
+    shared-kept newUnique = held-used
+    shared-kept (insertKey k x a) = untouched k
+    shared-kept (changeKey k x a) = untouched k
+    shared-kept (removeKey k x) = untouched k
+    shared-kept (changePrototype k p) = untouched k
+    shared-kept (hold k) = held-used
+    shared-kept (release k) = held-used
+    shared-kept (previous k) = held-used
+    shared-kept sweep = held-stays
+    shared-kept (lookup k x) = held-used
+    shared-kept (keysInto k out) = held-used
+    shared-kept (prototypeOf k) = held-used
+    shared-kept (isShared k) = held-used
+    shared-kept (transitionsOf k) = held-used
+    shared-kept (propertiesOf k) = held-used
+
+    -- and no call a held shared one.
+    pub call-keeps-shared : (c : Call) → Kept m (call m c .0) n
+    call-keeps-shared c = called m sound c .keeps .keeps n (shared-kept c)
