@@ -68,15 +68,6 @@ passed-all (b ∷ bs) p = rw (p .0) (passed-all bs (p .1))
 -- ## One test of every record
 
 module _ {A : Type 0} (test : A → Bool) where
-  -- The record at each place passes.
-  pub every-at : (xs : List A) (n : ℕ) (d : A) → every test xs ≡ true → 1 ≤ n → n ≤ length xs
-      → test (at xs n d) ≡ true
-  every-at xs zero d e low high = absurd (not-suc-le-zero low)
-  every-at [] (suc n) d e low high = absurd (not-suc-le-zero high)
-  every-at (x ∷ xs) (suc zero) d e low high = and-both (test x) e .0
-  every-at (x ∷ xs) (suc (suc n)) d e low high =
-      every-at xs (suc n) d (and-both (test x) e .1) (omega arith) (omega arith)
-
   pub every-make : (xs : List A) (d : A) → ((n : ℕ) → 1 ≤ n → n ≤ length xs → test (at xs n d) ≡ true)
       → every test xs ≡ true
   every-make [] d h = refl
