@@ -2,19 +2,16 @@
 -- Assumes nothing.
 use mathlib.Core.Bool.{true}
 use mathlib.Core.List.{List, [], _∷_}
-use mathlib.Core.Logic.{inl, inr, _≢_}
-use mathlib.Core.Path.{_≡_, refl, _∙_, ap}
+use mathlib.Core.Logic.{_≢_}
+use mathlib.Core.Path.{_≡_, refl}
 use Prim.Native.Nat.{ℕ, _+_}
 use native.Mathlib.Omega.{arith}
-use Rattle.store.specs.Model.{Limits, Model, freeShape, shapeAt}
+use Rattle.store.specs.Model.{Limits, freeShape, shapeAt}
 use Rattle.store.specs.Layout.{parse}
-use Rattle.store.specs.ListLaws.{Decided, either}
-use Rattle.store.specs.declared.Shape.{Shape}
 use Rattle.rules.specs.Sound.{sound}
 use Rattle.rules.specs.Calls.{Call, Done, Yes, callOn, format}
 use Rattle.rules.specs.Formatted.{format-sound}
-use Rattle.theorems.specs.Facts.{Sound}
-use Rattle.theorems.specs.Quiet.{holdsAt}
+use Rattle.theorems.specs.Quiet.{holdsAt, raw-holds}
 use Rattle.theorems.specs.CallsKeep.{granted, released, called}
 use Rattle.theorems.specs.WordsKeep.{sound-read, sound-call}
 use Rattle.theorems.specs.Demand3.{afterCalls, after-sound}
@@ -31,14 +28,6 @@ releases n ws [] = 0
 releases n ws (c ∷ cs) = released n c (callOn ws c .1) + releases n (callOn ws c .0) cs
 
 -- ## Over any calls
-
--- In a sound model a free place has no holds.
-holds-there : (m : Model) → Sound m → (n : ℕ) → shapeAt m n .holds ≡ holdsAt m n
-holds-there m isSound n = go (either (freeShape (shapeAt m n)))
-  where
-    go : Decided (freeShape (shapeAt m n)) → shapeAt m n .holds ≡ holdsAt m n
-    go (inl f) = ap (λ (s : Shape). s .holds) (isSound .freeShapes n f) ∙ rw f
-    go (inr u) = rw u
 
 -- The holds after calls and what they release are the holds before and what they grant.
 holds-follow : (n : ℕ) → n ≢ 0 → (ws : List ℕ) (cs : List Call) → sound ws ≡ true
@@ -66,4 +55,4 @@ holds-are-grants l ws e before since n place wasFree =
     let sound₁ = after-sound image since sound₀ in
     let none : holdsAt (parse image) n ≡ 0 = rw wasFree in
     let follow = holds-follow n place image since sound₀ in
-    omega (arith, holds-there (parse (afterCalls image since)) (sound-read _ sound₁ .isSound) n)
+    omega (arith, raw-holds (parse (afterCalls image since)) (sound-read _ sound₁ .isSound) n)

@@ -57,7 +57,7 @@ grantedBy (Listed count out) = 0
 grantedBy (Number n) = 0
 
 -- In a sound model a free shape has no holds anyway.
-raw-holds : (m : Model) → Sound m → (n : ℕ) → holdsAt m n ≡ shapeAt m n .holds
+pub raw-holds : (m : Model) → Sound m → (n : ℕ) → holdsAt m n ≡ shapeAt m n .holds
 raw-holds m sound n = go (either (freeShape (shapeAt m n)))
   where
     go : Decided (freeShape (shapeAt m n)) → holdsAt m n ≡ shapeAt m n .holds
