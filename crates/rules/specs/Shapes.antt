@@ -77,24 +77,11 @@ tableOf m s = entriesOf (tableAt m (s .table))
 abbrev pub entries : Model → Shape → List Entry
 entries m s = take (s .properties) (tableOf m s)
 
-abbrev pub rootShape : (table : ℕ) → Shape
-rootShape t =
+-- A shape that no step has made.
+abbrev pub standing : (state holds properties prototype table : ℕ) → Shape
+standing state h n p t =
     record {
-      state = 1;
-      holds = 0;
-      previous = 0;
-      step = 0;
-      transitions = 0;
-      properties = 0;
-      prototype = 0;
-      table = t;
-      counters = noCounters;
-    }
-
-abbrev pub uniqueShape : (holds properties prototype table : ℕ) → Shape
-uniqueShape h n p t =
-    record {
-      state = 2;
+      state = state;
       holds = h;
       previous = 0;
       step = 0;
@@ -104,6 +91,12 @@ uniqueShape h n p t =
       table = t;
       counters = noCounters;
     }
+
+abbrev pub rootShape : (table : ℕ) → Shape
+rootShape t = standing 1 0 0 0 t
+
+abbrev pub uniqueShape : (holds properties prototype table : ℕ) → Shape
+uniqueShape h n p t = standing 2 h n p t
 
 -- A shape with other holds, counters or property count.
 abbrev pub withHolds : Shape → ℕ → Shape
