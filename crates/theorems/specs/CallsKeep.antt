@@ -1,30 +1,28 @@
 -- Every call on a sound model leaves a sound model, and keeps all shapes in use but those that it is made to
 -- change: the unique that it acts on, and what a sweep frees. Holds change by what the reply says.
 -- Assumes nothing.
-use mathlib.Core.Bool.{true, false, _&&_, not}
-use mathlib.Core.List.{[]}
+use mathlib.Core.Bool.{true, false, not}
+use mathlib.Core.List.{List, []}
 use mathlib.Core.Option.{Option, none, some}
 use mathlib.Core.Logic.{_⊎_, inl, inr, _≢_}
 use mathlib.Core.Path.{_≡_, refl, sym, ap}
 use Prim.Native.Nat.{ℕ, _+_, _<_}
 use native.Mathlib.Omega.{arith}
-use borrow.Author.Tests.{eqb-false, ne-eqb, not-false}
+use borrow.Author.Tests.{eqb-false, ne-eqb}
 use lib.Dec.{eqb, ltb}
 use lib.ListN.{length}
-use Rattle.slot.specs.Attributes.{goodAttributes}
 use Rattle.store.specs.Model.{Model, freeShape, shapeAt}
 use Rattle.store.specs.ListLaws.{both-and, Decided, either, not-both}
 use Rattle.store.specs.declared.Shape.{Shape}
 use Rattle.store.specs.declared.Entry.{Entry}
 use Rattle.rules.specs.declared.ChangeTransitionAction.{ChangeTransitionAction}
 use Rattle.rules.specs.declared.ChangeTransitionAction.the-variants.{Nothing}
-use Rattle.rules.specs.declared.Refusal.the-variants.{BadKey, BadAttributes, NoShape, Present, Absent, OutShort}
+use Rattle.rules.specs.declared.Refusal.the-variants.{BadKey, NoShape, OutShort}
 use Rattle.rules.specs.Numbers.{goodKey}
-use Rattle.rules.specs.Shapes.{has, attributesIn, shared, unique, rootShape, uniqueShape}
+use Rattle.rules.specs.Shapes.{attributesIn, shared, unique, rootShape, uniqueShape}
 use Rattle.rules.specs.Refusals.{Got, ok, refused, _>>=_}
 use Rattle.rules.specs.Settled.{guard-passed, same-given}
 use Rattle.rules.specs.Steps.{Placed, fresh}
-use Rattle.rules.specs.Unique.{inserted, changed, removed, rebased}
 use Rattle.rules.specs.Sweep.{found, keyList}
 use Rattle.rules.specs.Calls.{Call, newRoot, newUnique, insertKey, changeKey, removeKey, changePrototype}
 use Rattle.rules.specs.Calls.{hold, release, previous, sweep, lookup, keysInto, prototypeOf, isShared}
@@ -35,12 +33,11 @@ use Rattle.theorems.specs.FactsSound.{facts-sound}
 use Rattle.theorems.specs.Frame.{Kept, Keeps, keeps-self, keeps-again, kept-used}
 use Rattle.theorems.specs.Holds.{release-keeps, grant-keeps}
 use Rattle.theorems.specs.Taken.{bind-passed}
-use Rattle.theorems.specs.Grow.{fresh-root, fresh-unique}
 use Rattle.theorems.specs.HeldChains.{OnHeldChain, held-on-its-chain, swept-keeps}
-use Rattle.theorems.specs.Made.{SharedAt, entriesAt, transitionsAt}
+use Rattle.theorems.specs.Made.{SharedAt, entriesAt, prototypeAt, transitionsAt}
 use Rattle.theorems.specs.Quiet.{holdsAt, one, grantedBy, grant-holds, release-holds, sweep-holds}
-use Rattle.theorems.specs.Changes.{Untouched, Gives, no-entries, fresh-gives, may-act, inserted-gives}
-use Rattle.theorems.specs.Changes.{changed-gives, removed-gives, rebased-gives}
+use Rattle.theorems.specs.Changes.{Untouched, Gives, root-gives, unique-gives, may-act}
+use Rattle.theorems.specs.Granting.{insert-grants, change-grants, removal-grants, prototype-grants}
 
 -- ## Statements
 
@@ -106,8 +103,8 @@ not-counted n place = rw (ne-eqb 0 n (λ e. place (sym e)))
 
 module _ (m : Model) (sound : Sound m) where
   -- "A call that returns a shape adds one hold to it".
-  gives : (c : Call) → releasedBy c ≡ 0 → ((k : ℕ) → KeptBy m c k → Used m k)
-      → (action : ChangeTransitionAction) (x : Placed) → Gives m (KeptBy m c) x
+  gives : {es : List Entry} {p : ℕ} (c : Call) → releasedBy c ≡ 0 → ((k : ℕ) → KeptBy m c k → Used m k)
+      → (action : ChangeTransitionAction) (x : Placed) → Gives m (KeptBy m c) es p x
       → (y : Model × Answer) → grant action x ≡ ok y → Called m c (y .0) (Yes (y .1))
   gives c quiet inUse action x g y e =
       let s = g .keeps .isSound in
@@ -120,26 +117,35 @@ module _ (m : Model) (sound : Sound m) where
       }
 
   -- The same of what a rule gives.
-  given : (c : Call) → releasedBy c ≡ 0 → ((k : ℕ) → KeptBy m c k → Used m k)
-      → (action : ChangeTransitionAction) (g : Got Placed) → ((x : Placed) → g ≡ ok x → Gives m (KeptBy m c) x)
+  given : {es : List Entry} {p : ℕ} (c : Call) → releasedBy c ≡ 0 → ((k : ℕ) → KeptBy m c k → Used m k)
+      → (action : ChangeTransitionAction) (g : Got Placed)
+      → ((x : Placed) → g ≡ ok x → Gives m (KeptBy m c) es p x)
       → (y : Model × Answer) → (g >>= grant action) ≡ ok y → Called m c (y .0) (Yes (y .1))
   given c quiet inUse action g rule y e =
       let b = bind-passed g (grant action) y e in
       gives c quiet inUse action (b .result) (rule (b .result) (b .gave)) y (b .below)
 
   -- A hold of a shape that is there.
-  here-gives : (n : ℕ) → Used m n → transitionsAt m n < 1024 → Gives m (Used m) (m, n)
+  pub here-gives : (n : ℕ) → Used m n → transitionsAt m n < 1024
+      → Gives m (Used m) (entriesAt m n) (prototypeAt m n) (m, n)
   here-gives n u below =
-      record { keeps = keeps-self sound; sameHolds = λ k. refl; isUsed = u; few = λ full. omega arith }
+      record {
+        keeps = keeps-self sound;
+        sameHolds = λ k. refl;
+        isUsed = u;
+        few = λ full. omega arith;
+        contents = record { itsEntries = refl; itsPrototype = refl };
+      }
 
-  previous-gives : (n : ℕ) → Used m n → eqb (shapeAt m n .previous) 0 ≡ false
-      → Gives m (Used m) (m, shapeAt m n .previous)
+  pub previous-gives : (n : ℕ) → Used m n → let p = shapeAt m n .previous in
+      eqb p 0 ≡ false → Gives m (Used m) (entriesAt m p) (prototypeAt m p) (m, p)
   previous-gives n u notRoot = go (sound .shapes n u .words .state)
     where
       p : ℕ
       p = shapeAt m n .previous
 
-      go : (shared (shapeAt m n) ≡ true) ⊎ (unique (shapeAt m n) ≡ true) → Gives m (Used m) (m, p)
+      go : (shared (shapeAt m n) ≡ true) ⊎ (unique (shapeAt m n) ≡ true)
+          → Gives m (Used m) (entriesAt m p) (prototypeAt m p) (m, p)
       go (inl h) =
           let child = sound .shapes n u .child (both-and h (rw notRoot)) in
           let most = sound .shapes n u .words .transitions in
@@ -153,7 +159,7 @@ module _ (m : Model) (sound : Sound m) where
   asked c quiet a nowhere y e =
       rw (← same-given e) record { keeps = keeps-self sound; holds = λ n place. rw (quiet, nowhere) }
 
-  slot-grants : (o : Option Entry) → grantedBy (slotOf o) ≡ 0
+  pub slot-grants : (o : Option Entry) → grantedBy (slotOf o) ≡ 0
   slot-grants none = refl
   slot-grants (some e) = refl
 
@@ -161,38 +167,23 @@ module _ (m : Model) (sound : Sound m) where
   unfolding perform
   performed newRoot y e =
       given newRoot refl (λ k u. u) Nothing (fresh m rootShape [])
-      (fresh-gives m sound rootShape [] fresh-root (λ t. refl) (λ t. refl) (λ t. refl) (no-entries m sound)) y e
+      (λ x e. root-gives m sound x e .0) y e
   performed newUnique y e =
       given newUnique refl (λ k u. u) Nothing (fresh m (uniqueShape 0 0 0) [])
-      (fresh-gives m sound (uniqueShape 0 0 0) [] (λ t. fresh-unique 0 0 0 t (omega arith)) (λ t. refl)
-      (λ t. refl) (λ t. refl) (no-entries m sound)) y e
+      (λ x e. unique-gives m sound x e .0) y e
   performed (insertKey n k a) y e =
-      let (key, e₁) = guard-passed BadKey (not (goodKey k)) _ y e in
-      let (low, e₂) = guard-passed BadAttributes (not (goodAttributes a)) _ y e₁ in
-      let (may, e₃) = guard-passed NoShape (unheld m n) _ y e₂ in
-      let (absent, e₄) = guard-passed Present (has k (entriesAt m n)) _ y e₃ in
-      given (insertKey n k a) refl (λ k p. p .0) Nothing (inserted m n k a)
-      (inserted-gives m sound n (may-act m sound n may) k a (not-false _ key) (not-false _ low) absent) y e₄
+      let t = insert-grants m sound n k a y e in
+      gives (insertKey n k a) refl (λ k p. p .0) Nothing (t .result) (t .changes .gives) y (t .grants)
   performed (changeKey n k a) y e =
-      let es = entriesAt m n in
-      let (key, e₁) = guard-passed BadKey (not (goodKey k)) _ y e in
-      let (low, e₂) = guard-passed BadAttributes (not (goodAttributes a)) _ y e₁ in
-      let (may, e₃) = guard-passed NoShape (unheld m n) _ y e₂ in
-      let (held, e₄) = guard-passed Absent (not (has k es)) _ y e₃ in
-      let acts = may-act m sound n may in
-      given (changeKey n k a) refl (λ k p. p .0) (actionFor (attributesIn k es) a) (changed m n k a)
-      (changed-gives m sound n acts k a (not-false _ key) (not-false _ low) (not-false _ held)) y e₄
+      let t = change-grants m sound n k a y e .0 in
+      let action = actionFor (attributesIn k (entriesAt m n)) a in
+      gives (changeKey n k a) refl (λ k p. p .0) action (t .result) (t .changes .gives) y (t .grants)
   performed (removeKey n k) y e =
-      let es = entriesAt m n in
-      let (key, e₁) = guard-passed BadKey (not (goodKey k)) _ y e in
-      let (may, e₂) = guard-passed NoShape (unheld m n) _ y e₁ in
-      let (holds, e₃) = guard-passed Absent (shared (shapeAt m n) && not (has k es)) _ y e₂ in
-      given (removeKey n k) refl (λ k p. p .0) Nothing (removed m n k)
-      (removed-gives m sound n (may-act m sound n may) k (λ h. not-false (has k es) (rw h at holds))) y e₃
+      let t = removal-grants m sound n k y e in
+      gives (removeKey n k) refl (λ k p. p .0) Nothing (t .result) (t .changes .gives) y (t .grants)
   performed (changePrototype n p) y e =
-      let (may, e₁) = guard-passed NoShape (unheld m n) _ y e in
-      given (changePrototype n p) refl (λ k p. p .0) Nothing (rebased m n p)
-      (rebased-gives m sound n (may-act m sound n may) p) y e₁
+      let t = prototype-grants m sound n p y e in
+      gives (changePrototype n p) refl (λ k p. p .0) Nothing (t .result) (t .changes .gives) y (t .grants)
   performed (hold n) y e =
       let (may, e₁) = guard-passed NoShape (unheld m n) _ y e in
       let acts = may-act m sound n may in
@@ -262,7 +253,7 @@ module _ (m : Model) (sound : Sound m) (n : ℕ) (isHeld : HeldAt m n) where
       go (inl f) = absurd (isHeld (ap (λ (s : Shape). s .holds) (sound .freeShapes n f)))
       go (inr u) = u
 
-  held-stays : OnHeldChain m n
+  pub held-stays : OnHeldChain m n
   held-stays = held-on-its-chain m sound n (rw (ne-eqb (shapeAt m n .holds) 0 isHeld))
 
   -- No sweep changes a held shape, shared or unique,

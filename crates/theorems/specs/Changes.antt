@@ -4,9 +4,9 @@ use mathlib.Core.Bool.{true, false}
 use mathlib.Core.List.{List, []}
 use mathlib.Core.Logic.{_⊎_, inl, inr, _≢_}
 use mathlib.Core.Path.{_≡_, refl, _∙_, ap}
-use Prim.Native.Nat.{ℕ, _<_}
+use Prim.Native.Nat.{ℕ, _+_, _<_}
 use native.Mathlib.Omega.{arith}
-use borrow.Author.Tests.{eqb-false, not-true, not-false}
+use borrow.Author.Tests.{eqb-true, eqb-false, not-true, not-false}
 use lib.Dec.{eqb}
 use lib.ListN.{length}
 use lib.Seq.{length-take-le}
@@ -17,26 +17,31 @@ use Rattle.store.specs.ListLaws.{both-and, or-none, Decided, either, not-both}
 use Rattle.store.specs.declared.Shape.{Shape}
 use Rattle.store.specs.declared.Entry.{Entry}
 use Rattle.rules.specs.Numbers.{goodKey}
-use Rattle.rules.specs.Shapes.{has, attributesIn, shared, unique, tableOf, entries, uniqueShape}
+use Rattle.rules.specs.Shapes.{has, attributesIn, shared, unique, isRoot, tableOf, entries, rootShape}
+use Rattle.rules.specs.Shapes.{uniqueShape}
 use Rattle.rules.specs.Refusals.{Got, ok, _>>=_}
 use Rattle.rules.specs.Settled.{same-given}
 use Rattle.rules.specs.Steps.{Step, insert, prototype, Placed, step, removeShared, changeShared, fresh, limited}
 use Rattle.rules.specs.Unique.{insertUnique, removeUnique, changeUnique, prototypeUnique, inserted, changed}
 use Rattle.rules.specs.Unique.{removed, rebased}
 use Rattle.rules.specs.Sweep.{held}
-use Rattle.rules.specs.Calls.{isShared, unheld}
-use Rattle.theorems.specs.Facts.{Used, GoodTable, Sound, shared-used, unique-used, used-table}
+use Rattle.rules.specs.Calls.{unheld}
+use Rattle.theorems.specs.Facts.{Used, GoodTable, Sound, shared-used, unique-used, shared-not-unique}
+use Rattle.theorems.specs.Facts.{used-table}
 use Rattle.theorems.specs.Entries.{good-take}
 use Rattle.theorems.specs.Frame.{Keeps, keeps-self, keeps-fewer, keeps-again, kept-used}
 use Rattle.theorems.specs.Taken.{bind-passed}
-use Rattle.theorems.specs.Grow.{FreshShape, fresh-keeps, fresh-unique}
-use Rattle.theorems.specs.Uniques.{Acted, insert-unique-keeps, remove-unique-keeps, change-unique-keeps}
-use Rattle.theorems.specs.Uniques.{prototype-unique-keeps}
-use Rattle.theorems.specs.Made.{SharedAt, entriesAt, transitionsAt}
+use Rattle.theorems.specs.Grow.{FreshShape, Fresh, fresh-keeps, fresh-root, fresh-unique}
+use Rattle.theorems.specs.Uniques.{OldOne, Acted, insert-unique-keeps, remove-unique-keeps}
+use Rattle.theorems.specs.Uniques.{change-unique-keeps, prototype-unique-keeps}
+use Rattle.theorems.specs.Made.{SharedAt, entriesAt, prototypeAt, transitionsAt, Contents}
+use Rattle.theorems.specs.InTurn.{stepsEntries, stepsPrototype}
+use Rattle.theorems.specs.Rollback.{rolled-back}
+use Rattle.theorems.specs.Outcomes.{Outcome, byInsert, byChange, byRemoval, byPrototype}
 use Rattle.theorems.specs.Sequence.{Led, step-led, removal-led, change-led, configure-led}
-use Rattle.theorems.specs.Quiet.{holdsOf, SameHolds, Quiet, fresh-holds, step-holds, removal-holds}
-use Rattle.theorems.specs.Quiet.{change-holds, insert-unique-holds, remove-unique-holds}
-use Rattle.theorems.specs.Quiet.{change-unique-holds, prototype-unique-holds}
+use Rattle.theorems.specs.Quiet.{SameHolds, Quiet, fresh-holds, step-holds, removal-holds, change-holds}
+use Rattle.theorems.specs.Quiet.{insert-unique-holds, remove-unique-holds, change-unique-holds}
+use Rattle.theorems.specs.Quiet.{prototype-unique-holds}
 
 -- ## Statements
 
@@ -45,12 +50,26 @@ abbrev pub Untouched : Model → (n : ℕ) → ℕ → Type 0
 Untouched m n k = Used m k × (unique (shapeAt m n) ≡ true → k ≢ n)
 
 -- What a rule gives before its result is held: a sound model that keeps the shapes of P and every hold, and a
--- shape in use that may be held.
-pub record Gives (m : Model) (P : ℕ → Type 0) (y : Placed) : Type 0 where
+-- shape in use that may be held, with the entries es and the prototype p.
+pub record Gives (m : Model) (P : ℕ → Type 0) (es : List Entry) (p : ℕ) (y : Placed) : Type 0 where
   pub keeps : Keeps m (y .0) P
   pub sameHolds : SameHolds m (y .0)
   pub isUsed : Used (y .0) (y .1)
   pub few : transitionsAt (y .0) (y .1) ≢ 1024
+  pub contents : Contents (y .0) (y .1) es p
+
+-- "If the final result has 1,024 transitions, a new unique shape .. is returned". The steps lead to `count`
+-- transitions, and the shape at n is the answer.
+pub record Limited (count : ℕ) (m : Model) (n : ℕ) : Type 0 where
+  pub below : count ≢ 1024 → SharedAt m n × (transitionsAt m n ≡ count)
+  pub full : count ≡ 1024 → unique (shapeAt m n) ≡ true
+
+-- What a change of the shape at n gives.
+pub record ChangesTo (m : Model) (n : ℕ) (o : Outcome) (y : Placed) : Type 0 where
+  pub gives : Gives m (Untouched m n) (o .entries) (o .prototype) y
+  pub ofUnique : unique (shapeAt m n) ≡ true
+      → (unique (shapeAt (y .0) (y .1)) ≡ true) × OldOne (o .same) (y .0) n (o .left) (y .1)
+  pub ofShared : SharedAt m n → Limited (o .transitions) (y .0) (y .1)
 
 -- A shape that a call may act on: it is in use, and below 1,024 transitions since it is held.
 pub record MayAct (m : Model) (n : ℕ) : Type 0 where
@@ -75,90 +94,149 @@ module _ (m : Model) (sound : Sound m) where
       let count = own-count n u in
       record { good = good-take (s .properties) (tableOf m s) (whole .good); room = omega arith }
 
-  pub no-entries : GoodTable (m .K) []
+  no-entries : GoodTable (m .K) []
   no-entries = record { good = refl; room = omega arith }
 
   -- ## A new shape
 
-  pub fresh-gives : (shape : ℕ → Shape) (es : List Entry) → ((t : ℕ) → FreshShape (shape t) t (length es))
+  fresh-gives : {shape : ℕ → Shape} {es : List Entry} {y : Placed} (p : ℕ) → Fresh m shape es y
       → ((t : ℕ) → freeShape (shape t) ≡ false) → ((t : ℕ) → shape t .transitions ≡ 0)
-      → ((t : ℕ) → holdsOf (shape t) ≡ 0) → GoodTable (m .K) es
-      → (y : Placed) → fresh m shape es ≡ ok y → Gives m (Used m) y
-  fresh-gives shape es fit stands none unheld good y e =
-      let f = fresh-keeps m sound shape es fit good y e in
+      → ((t : ℕ) → shape t .prototype ≡ p) → SameHolds m (y .0) → Gives m (Used m) es p y
+  fresh-gives p f stands none its same =
       record {
         keeps = f .keeps;
-        sameHolds = fresh-holds m shape es unheld y e;
+        sameHolds = same;
         isUsed = rw (f .stands) (stands (f .table));
         few = λ full. omega (arith, full, ap (λ (s : Shape). s .transitions) (f .stands), none (f .table));
+        contents = record {
+          itsEntries = f .itsEntries;
+          itsPrototype = ap (λ (s : Shape). s .prototype) (f .stands) ∙ its (f .table);
+        };
       }
 
+  pub root-gives : (y : Placed) → fresh m rootShape [] ≡ ok y
+      → Gives m (Used m) [] 0 y × (isRoot (shapeAt (y .0) (y .1)) ≡ true)
+  root-gives y e =
+      let f = fresh-keeps m sound rootShape [] fresh-root no-entries y e in
+      let same = fresh-holds m rootShape [] (λ t. refl) y e in
+      (fresh-gives 0 f (λ t. refl) (λ t. refl) (λ t. refl) same, ap isRoot (f .stands))
+
+  pub unique-gives : (y : Placed) → fresh m (uniqueShape 0 0 0) [] ≡ ok y
+      → Gives m (Used m) [] 0 y × (unique (shapeAt (y .0) (y .1)) ≡ true)
+  unique-gives y e =
+      let shape = uniqueShape 0 0 0 in
+      let f = fresh-keeps m sound shape [] (λ t. fresh-unique 0 0 0 t (omega arith)) no-entries y e in
+      let same = fresh-holds m shape [] (λ t. refl) y e in
+      (fresh-gives 0 f (λ t. refl) (λ t. refl) (λ t. refl) same, ap unique (f .stands))
+
   -- "If the final result has 1,024 transitions, a new unique shape copies its keys and prototype"
-  limited-gives : (n : ℕ) → Used m n → (y : Placed) → limited (m, n) ≡ ok y → Gives m (Used m) y
+  limited-gives : (n : ℕ) → SharedAt m n → (y : Placed) → limited (m, n) ≡ ok y
+      → Gives m (Used m) (entriesAt m n) (prototypeAt m n) y × Limited (transitionsAt m n) (y .0) (y .1)
   unfolding limited
-  limited-gives n u y e = go (either (eqb (s .transitions) 1024))
+  limited-gives n h y e = go (either (eqb (s .transitions) 1024))
     where
       s : Shape
       s = shapeAt m n
 
+      u : Used m n
+      u = shared-used s h
+
       fit : (t : ℕ) → FreshShape (uniqueShape 0 (s .properties) (s .prototype) t) t (length (entries m s))
       fit t = rw (own-count n u) (fresh-unique 0 (s .properties) (s .prototype) t (omega arith))
 
-      go : Decided (eqb (s .transitions) 1024) → Gives m (Used m) y
+      go : Decided (eqb (s .transitions) 1024)
+          → Gives m (Used m) (entriesAt m n) (prototypeAt m n) y × Limited (transitionsAt m n) (y .0) (y .1)
       go (inl q) =
-          fresh-gives (uniqueShape 0 (s .properties) (s .prototype)) (entries m s) fit (λ t. refl) (λ t. refl)
-          (λ t. refl) (own-good n u) y (rw q at e)
+          let shape = uniqueShape 0 (s .properties) (s .prototype) in
+          let f = fresh-keeps m sound shape (entries m s) fit (own-good n u) y (rw q at e) in
+          let same = fresh-holds m shape (entries m s) (λ t. refl) y (rw q at e) in
+          let full = eqb-true (s .transitions) 1024 q in (
+            fresh-gives (s .prototype) f (λ t. refl) (λ t. refl) (λ t. refl) same,
+            record { below = λ few. absurd (few full); full = λ z. ap unique (f .stands) },
+          )
       go (inr q) =
-          rw (← same-given (rw q at e))
-          record {
-            keeps = keeps-self sound;
-            sameHolds = λ k. refl;
-            isUsed = u;
-            few = eqb-false (s .transitions) 1024 q;
-          }
+          let few = eqb-false (s .transitions) 1024 q in
+          rw (← same-given (rw q at e)) (
+            record {
+              keeps = keeps-self sound;
+              sameHolds = λ k. refl;
+              isUsed = u;
+              few = few;
+              contents = record { itsEntries = refl; itsPrototype = refl };
+            },
+            record { below = λ z. (h, refl); full = λ full. absurd (few full) },
+          )
 
   -- ## A shape in either state
 
-  acted-gives : (n : ℕ) (y : Placed) → Acted m n y → SameHolds m (y .0) → unique (shapeAt m n) ≡ true
-      → Gives m (Untouched m n) y
-  acted-gives n y a same r =
+  acted-gives : (n : ℕ) (o : Outcome) (y : Placed)
+      → Acted m n (o .entries) (o .prototype) (o .same) (o .left) y → SameHolds m (y .0)
+      → unique (shapeAt m n) ≡ true → ChangesTo m n o y
+  acted-gives n o y a same r =
       let u = unique-used (shapeAt (y .0) (y .1)) (a .isUnique) in
       let z = a .keeps .isSound .shapes (y .1) u .words .unique (a .isUnique) in
       record {
-        keeps = keeps-fewer (λ k p. (p .0, p .1 r)) (a .keeps);
-        sameHolds = same;
-        isUsed = u;
-        few = λ full. omega (arith, z .transitions, full);
+        gives = record {
+          keeps = keeps-fewer (λ k p. (p .0, p .1 r)) (a .keeps);
+          sameHolds = same;
+          isUsed = u;
+          few = λ full. omega (arith, z .transitions, full);
+          contents = a .contents;
+        };
+        ofUnique = λ r. (a .isUnique, a .oldOne);
+        ofShared = λ h. not-both r (shared-not-unique (shapeAt m n) h);
       }
 
 -- What a rule for shared shapes gives before the limit is looked at.
-abbrev Shared : Model → Placed → Type 0
-Shared m x = Keeps m (x .0) (Used m) × SharedAt (x .0) (x .1)
+record Leads (m : Model) (o : Outcome) (x : Placed) : Type 0 where
+  keeps : Keeps m (x .0) (Used m)
+  isShared : SharedAt (x .0) (x .1)
+  itsCount : transitionsAt (x .0) (x .1) ≡ o .transitions
+  itsEntries : entriesAt (x .0) (x .1) ≡ o .entries
+  itsPrototype : prototypeAt (x .0) (x .1) ≡ o .prototype
 
-led-shared : {m : Model} {n : ℕ} {ts : List Step} {x : Placed} → Led m n ts x → Shared m x
-led-shared l = (l .keeps, l .isShared)
+led-leads : {m : Model} {n : ℕ} {ts : List Step} {x : Placed} (o : Outcome) → Led m n ts x
+    → transitionsAt m n + length ts ≡ o .transitions → stepsEntries ts (entriesAt m n) ≡ o .entries
+    → stepsPrototype ts (prototypeAt m n) ≡ o .prototype → Leads m o x
+led-leads o l count es p =
+    record {
+      keeps = l .keeps;
+      isShared = l .isShared;
+      itsCount = l .itsCount ∙ count;
+      itsEntries = l .itsEntries ∙ es;
+      itsPrototype = l .itsPrototype ∙ p;
+    }
 
 module _ (m : Model) (sound : Sound m) where
-  shared-gives : (n : ℕ) (x : Placed) → Shared m x → SameHolds m (x .0)
-      → (y : Placed) → limited x ≡ ok y → Gives m (Untouched m n) y
-  shared-gives n (j, c) (keeps, h) same y e =
-      let g = limited-gives j (keeps .isSound) c (shared-used (shapeAt j c) h) y e in
-      let all = keeps-again keeps (λ k u kept. kept-used u kept) (g .keeps) in
+  shared-gives : (n : ℕ) → SharedAt m n → (o : Outcome) (x : Placed) → Leads m o x → SameHolds m (x .0)
+      → (y : Placed) → limited x ≡ ok y → ChangesTo m n o y
+  shared-gives n h o (j, c) l same y e =
+      let (g, limit) = limited-gives j (l .keeps .isSound) c (l .isShared) y e in
+      let all = keeps-again (l .keeps) (λ k u kept. kept-used u kept) (g .keeps) in
       record {
-        keeps = keeps-fewer (λ k p. p .0) all;
-        sameHolds = λ k. g .sameHolds k ∙ same k;
-        isUsed = g .isUsed;
-        few = g .few;
+        gives = record {
+          keeps = keeps-fewer (λ k p. p .0) all;
+          sameHolds = λ k. g .sameHolds k ∙ same k;
+          isUsed = g .isUsed;
+          few = g .few;
+          contents = record {
+            itsEntries = g .contents .itsEntries ∙ l .itsEntries;
+            itsPrototype = g .contents .itsPrototype ∙ l .itsPrototype;
+          };
+        };
+        ofUnique = λ r. not-both r (shared-not-unique (shapeAt m n) h);
+        ofShared = λ h. rw (l .itsCount) at limit;
       }
 
   -- One law for the four changes of a shape in either state.
-  change-gives : (n : ℕ) → Used m n → (forUnique forShared : Got Placed)
+  change-gives : (n : ℕ) → Used m n → (o : Outcome) (forUnique forShared : Got Placed)
       → (unique (shapeAt m n) ≡ true → Quiet m forUnique) → Quiet m forShared
-      → (unique (shapeAt m n) ≡ true → (y : Placed) → forUnique ≡ ok y → Acted m n y)
-      → (SharedAt m n → (x : Placed) → forShared ≡ ok x → Shared m x)
+      → (unique (shapeAt m n) ≡ true → (y : Placed) → forUnique ≡ ok y
+      → Acted m n (o .entries) (o .prototype) (o .same) (o .left) y)
+      → (SharedAt m n → (x : Placed) → forShared ≡ ok x → Leads m o x)
       → (y : Placed) → (if unique (shapeAt m n) then forUnique else (forShared >>= limited)) ≡ ok y
-      → Gives m (Untouched m n) y
-  change-gives n u forUnique forShared quietUnique quietShared acts leads y e =
+      → ChangesTo m n o y
+  change-gives n u o forUnique forShared quietUnique quietShared acts leads y e =
       go (either (unique (shapeAt m n)))
     where
       is-shared : unique (shapeAt m n) ≡ false
@@ -166,13 +244,13 @@ module _ (m : Model) (sound : Sound m) where
       is-shared r (inl h) = h
       is-shared r (inr h) = not-both h r
 
-      go : Decided (unique (shapeAt m n)) → Gives m (Untouched m n) y
-      go (inl r) = acted-gives m sound n y (acts r y (rw r at e)) (quietUnique r y (rw r at e)) r
+      go : Decided (unique (shapeAt m n)) → ChangesTo m n o y
+      go (inl r) = acted-gives m sound n o y (acts r y (rw r at e)) (quietUnique r y (rw r at e)) r
       go (inr r) =
           let b = bind-passed forShared limited y (rw r at e) in
           let h = is-shared r (sound .shapes n u .words .state) in
           let x = b .result in
-          shared-gives n x (leads h x (b .gave)) (quietShared x (b .gave)) y (b .below)
+          shared-gives n h o x (leads h x (b .gave)) (quietShared x (b .gave)) y (b .below)
 
   pub may-act : (n : ℕ) → unheld m n ≡ false → MayAct m n
   may-act n h =
@@ -191,41 +269,54 @@ module _ (m : Model) (sound : Sound m) where
     es = entriesAt m n
 
     pub inserted-gives : (k a : ℕ) → goodKey k ≡ true → goodAttributes a ≡ true → has k es ≡ false
-        → (y : Placed) → inserted m n k a ≡ ok y → Gives m (Untouched m n) y
+        → (y : Placed) → inserted m n k a ≡ ok y → ChangesTo m n (byInsert m n k a) y
     unfolding inserted
     inserted-gives k a key low absent =
-        change-gives n (may .isUsed) (insertUnique m n k a) (step m n (insert k a))
+        change-gives n (may .isUsed) (byInsert m n k a) (insertUnique m n k a) (step m n (insert k a))
         (λ r. insert-unique-holds m n r k a) (step-holds m n (insert k a))
         (λ r. insert-unique-keeps m sound n r k a key low absent)
         (λ h x e.
-        led-shared (step-led m sound n h (insert k a) (may .below) (both-and key low, rw absent, tt) x e))
+        let l = step-led m sound n h (insert k a) (may .below) (both-and key low, rw absent, tt) x e in
+        led-leads (byInsert m n k a) l refl refl refl)
 
     pub changed-gives : (k a : ℕ) → goodKey k ≡ true → goodAttributes a ≡ true → has k es ≡ true
-        → (y : Placed) → changed m n k a ≡ ok y → Gives m (Untouched m n) y
+        → (y : Placed) → changed m n k a ≡ ok y → ChangesTo m n (byChange m n k a) y
     unfolding changed
     changed-gives k a key low holds =
-        change-gives n (may .isUsed) (changeUnique m n k a) (changeShared m n k a)
+        change-gives n (may .isUsed) (byChange m n k a) (changeUnique m n k a) (changeShared m n k a)
         (λ r. change-unique-holds m n r k a) (change-holds m n k a)
-        (λ r. change-unique-keeps m sound n r k a low)
+        (λ r y e. rw r (change-unique-keeps m sound n r k a low y e))
         (λ h x e. go h x e (either (sameWidth (attributesIn k es) a)))
       where
         go : SharedAt m n → (x : Placed) → changeShared m n k a ≡ ok x
-            → Decided (sameWidth (attributesIn k es) a) → Shared m x
-        go h x e (inl wide) = led-shared (configure-led m sound n k h holds a key low (may .below) wide x e)
-        go h x e (inr wide) = led-shared (change-led m sound n k h holds a low wide x e)
+            → Decided (sameWidth (attributesIn k es) a) → Leads m (byChange m n k a) x
+        go h x e (inl wide) =
+            let l = configure-led m sound n k h holds a key low (may .below) wide x e in
+            led-leads (byChange m n k a) l (rw wide) (rw wide) refl
+        go h x e (inr wide) =
+            let l = change-led m sound n k h holds a low wide x e in
+            let other = shared-not-unique (shapeAt m n) h in
+            led-leads (byChange m n k a) l (rw wide) (rw (wide, other))
+            (rolled-back m sound n k h holds .change a low .itsPrototype)
 
     pub removed-gives : (k : ℕ) → (SharedAt m n → has k es ≡ true)
-        → (y : Placed) → removed m n k ≡ ok y → Gives m (Untouched m n) y
+        → (y : Placed) → removed m n k ≡ ok y → ChangesTo m n (byRemoval m n k) y
     unfolding removed
     removed-gives k holds =
-        change-gives n (may .isUsed) (removeUnique m n k) (removeShared m n k)
+        change-gives n (may .isUsed) (byRemoval m n k) (removeUnique m n k) (removeShared m n k)
         (λ r. remove-unique-holds m n r k) (removal-holds m n k)
-        (λ r. remove-unique-keeps m sound n r k) (λ h x e. led-shared (removal-led m sound n k h (holds h) x e))
+        (λ r y e. rw r (remove-unique-keeps m sound n r k y e))
+        (λ h x e.
+        let other = shared-not-unique (shapeAt m n) h in
+        led-leads (byRemoval m n k) (removal-led m sound n k h (holds h) x e) refl (rw other)
+        (rolled-back m sound n k h (holds h) .removal .itsPrototype))
 
-    pub rebased-gives : (p : ℕ) (y : Placed) → rebased m n p ≡ ok y → Gives m (Untouched m n) y
+    pub rebased-gives : (p : ℕ) (y : Placed) → rebased m n p ≡ ok y → ChangesTo m n (byPrototype m n p) y
     unfolding rebased
     rebased-gives p =
-        change-gives n (may .isUsed) (prototypeUnique m n p) (step m n (prototype p))
+        change-gives n (may .isUsed) (byPrototype m n p) (prototypeUnique m n p) (step m n (prototype p))
         (λ r. prototype-unique-holds m n r p) (step-holds m n (prototype p))
         (λ r. prototype-unique-keeps m sound n r p)
-        (λ h x e. led-shared (step-led m sound n h (prototype p) (may .below) (refl, refl, tt) x e))
+        (λ h x e.
+        let l = step-led m sound n h (prototype p) (may .below) (refl, refl, tt) x e in
+        led-leads (byPrototype m n p) l refl refl refl)

@@ -304,6 +304,24 @@ good-without es k h = good-laid (without es k) (keys-keep (λ e. not (isKey k e)
 pub length-without : (es : List Entry) (k : ℕ) → length (without es k) ≤ length es
 length-without es k = length-keep (λ e. not (isKey k e)) es
 
+-- Where the key is absent, and the slots are right already, nothing changes.
+without-absent : (k : ℕ) (es : List Entry) → has k es ≡ false → without es k ≡ es
+without-absent k [] h = refl
+without-absent k (e ∷ es) h =
+    let p = or-none (isKey k e) h in
+    rw (p .0) (ap (λ (fs : List Entry). e ∷ fs) (without-absent k es (p .1)))
+
+laid-self : (n : ℕ) (es : List Entry) → slotsFrom n es ≡ true → laid n es ≡ es
+laid-self n [] h = refl
+laid-self n (e ∷ es) h =
+    let slot = sym (first-slot n e es h) in
+    let later = laid-self (n + width (e .attributes)) es (rest-slots n e es h) in
+    λ j. entry (e .key) (e .attributes) (slot j) ∷ later j
+
+pub laid-without-absent : (k : ℕ) (es : List Entry) → goodEntries es ≡ true → has k es ≡ false
+    → laid 0 (without es k) ≡ es
+laid-without-absent k es h absent = rw (without-absent k es absent) (laid-self 0 es (good-slots es h))
+
 -- ## What a step leads to
 
 -- A step that may be taken leads to its own entries and prototype,

@@ -8,6 +8,7 @@ use mathlib.Core.Path.{_≡_, refl, sym, _∙_, ap}
 use Prim.Native.Nat.{ℕ, _≤_}
 use native.Mathlib.Omega.{arith}
 use lib.ListN.{length}
+use lib.Seq.{take-length}
 use Rattle.store.specs.Lists.{at}
 use Rattle.store.specs.Model.{Table, free, used, Limits, Model, limitsOf, noShape, freeShape, freeTable}
 use Rattle.store.specs.Model.{freeEdge, shapeAt, tableAt, edgeAt, putShape, putTable}
@@ -18,7 +19,7 @@ use Rattle.store.specs.declared.Shape.{Shape}
 use Rattle.store.specs.declared.Entry.{Entry}
 use Rattle.store.specs.declared.Edge.{Edge}
 use Rattle.rules.specs.declared.Refusal.the-variants.{ShapesFull, TablesFull}
-use Rattle.rules.specs.Shapes.{shared, unique, isChild, rootShape, uniqueShape}
+use Rattle.rules.specs.Shapes.{shared, unique, isChild, entries, rootShape, uniqueShape}
 use Rattle.rules.specs.Refusals.{ok, place}
 use Rattle.rules.specs.Steps.{Placed, copyTo, fresh}
 use Rattle.theorems.specs.Facts.{Used, GoodWords, InLimits, ShapeSound, User, GoodTable, EdgeSound}
@@ -146,6 +147,11 @@ pub free-unused : (m : Model) → Sound m → (t : ℕ) → freeTable (tableAt m
     → (k : ℕ) → Used m k → shapeAt m k .table ≢ t
 free-unused m sound t f k u e = not-both (rw (← e) at f) (sound .shapes k u .tableUsed)
 
+-- A shape that counts a whole table has its entries.
+pub whole-entries : (m : Model) (s : Shape) (es : List Entry) → tableAt m (s .table) ≡ used es
+    → s .properties ≡ length es → entries m s ≡ es
+whole-entries m s es its count = rw (its, count) (take-length es)
+
 -- ## A root or a unique, with a table of its own
 
 -- What is said of the new shape, whatever table place t it gets.
@@ -183,9 +189,14 @@ module _ (m : Model) (sound : Sound m) (n t : ℕ) (es : List Entry) (s : Shape)
       go (here e x) = e
       go (elsewhere e x) = absurd (unused k (rw x at u) (rw x at q))
 
+  its : tableAt more (s .table) ≡ used es
+  its = ap (tableAt more) (fit .itsTable) ∙ put-here (table-at t)
+
+  new-entries : entries more (shapeAt more n) ≡ es
+  new-entries = rw (put-here (shape-at n)) (whole-entries more s es its (fit .whole))
+
   new-sound : ShapeSound more n s
   new-sound =
-      let its : tableAt more (s .table) ≡ used es = ap (tableAt more) (fit .itsTable) ∙ put-here (table-at t) in
       record {
         words = fit .words;
         limits = fit .limits;
@@ -217,7 +228,7 @@ module _ (m : Model) (sound : Sound m) (n t : ℕ) (es : List Entry) (s : Shape)
 pub record Fresh (m : Model) (shape : ℕ → Shape) (es : List Entry) (y : Placed) : Type 0 where
   pub table : ℕ
   pub stands : shapeAt (y .0) (y .1) ≡ shape table
-  pub itsTable : tableAt (y .0) table ≡ used es
+  pub itsEntries : entries (y .0) (shapeAt (y .0) (y .1)) ≡ es
   pub wasFree : freeShape (shapeAt m (y .1)) ≡ true
   pub keeps : Keeps m (y .0) (Used m)
 
@@ -239,7 +250,7 @@ fresh-keeps m sound shape es fit good y e =
     record {
       table = t;
       stands = put-here (shape-at m sound n t es (shape t) shapePlace tablePlace (fit t) good n);
-      itsTable = g .table;
+      itsEntries = new-entries m sound n t es (shape t) shapePlace tablePlace (fit t) good;
       wasFree = shapePlace .wasFree;
       keeps = growth-keeps m _ sound n t es g;
     }

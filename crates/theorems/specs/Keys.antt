@@ -103,7 +103,7 @@ addedKeys (insert k a) = k ∷ []
 addedKeys (configure k a) = []
 addedKeys (prototype p) = []
 
-keys-configured : (es : List Entry) (k a : ℕ) → keys (configured es k a) ≡ keys es
+pub keys-configured : (es : List Entry) (k a : ℕ) → keys (configured es k a) ≡ keys es
 keys-configured [] k a = refl
 keys-configured (e ∷ es) k a = go (isKey k e) refl (keys-configured es k a)
   where

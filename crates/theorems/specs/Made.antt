@@ -13,6 +13,7 @@ use Rattle.slot.specs.If.{if_then_else_}
 use Rattle.slot.specs.Attributes.{goodAttributes, width}
 use Rattle.store.specs.Model.{Model, freeEdge, shapeAt, tableAt, edgeAt}
 use Rattle.store.specs.ListLaws.{and-both, both-and, Decided, either}
+use Rattle.store.specs.declared.Shape.{Shape}
 use Rattle.store.specs.declared.Entry.{Entry}
 use Rattle.store.specs.declared.Edge.{Edge}
 use Rattle.rules.specs.Numbers.{goodKey}
@@ -24,6 +25,7 @@ use Rattle.rules.specs.Sweep.{deadened}
 use Rattle.rules.specs.Trails.{madeBy}
 use Rattle.theorems.specs.Facts.{Sound, shared-used, used-place, used-table, transitions-child}
 use Rattle.theorems.specs.FactsSound.{its-edge}
+use Rattle.theorems.specs.Frame.{Kept}
 use Rattle.theorems.specs.Entries.{good-slots, good-take, good-appended, good-configured, led-to}
 
 -- The shape at a place is shared, and so in use.
@@ -41,6 +43,19 @@ previousAt m n = shapeAt m n .previous
 
 abbrev pub transitionsAt : Model → ℕ → ℕ
 transitionsAt m n = shapeAt m n .transitions
+
+-- What a shape holds: its entries, which are its keys with their attributes and slots, and its prototype.
+pub record Contents (m : Model) (n : ℕ) (es : List Entry) (p : ℕ) : Type 0 where
+  pub itsEntries : entriesAt m n ≡ es
+  pub itsPrototype : prototypeAt m n ≡ p
+
+pub kept-contents : {i j : Model} {n : ℕ} {es : List Entry} {p : ℕ} → Kept i j n → Contents i n es p
+    → Contents j n es p
+kept-contents k c =
+    record {
+      itsEntries = k .sameEntries ∙ c .itsEntries;
+      itsPrototype = ap (λ (s : Shape). s .prototype) (k .sameCore) ∙ c .itsPrototype;
+    }
 
 -- A step's key is good and its attributes are up to 31.
 abbrev pub goodStep : Step → Bool

@@ -14,11 +14,11 @@ use Rattle.store.specs.PlaceLaws.{length-put, same?, at-inside, AfterPut, after
 use Rattle.store.specs.ListLaws.{Decided, either, not-both}
 use Rattle.store.specs.declared.Shape.{Shape}
 use Rattle.store.specs.declared.Entry.{Entry}
-use Rattle.rules.specs.Shapes.{shared, unique}
+use Rattle.rules.specs.Shapes.{shared, unique, entries}
 use Rattle.theorems.specs.Facts.{Used, GoodWords, InLimits, ShapeSound, User, GoodTable, Sound}
 use Rattle.theorems.specs.Facts.{shared-used, unique-used, shared-not-unique, child-shared}
 use Rattle.theorems.specs.Holds.{shape-put}
-use Rattle.theorems.specs.Grow.{FreshShape}
+use Rattle.theorems.specs.Grow.{whole-entries, FreshShape}
 use Rattle.theorems.specs.Frame.{core, longer-same, ShapeCase, stays, vacant, made, Change, Keeps}
 use Rattle.theorems.specs.Frame.{change-keeps, same-edge}
 
@@ -140,6 +140,9 @@ module _ (m j : Model) (sound : Sound m) (n : ℕ) (es : List Entry) (r : Retabl
   pub retabled-keeps : Keeps m j (Others m n)
   retabled-keeps = change-keeps sound retabled-change
 
+  pub retabled-entries : entries j (shapeAt j n) ≡ es
+  retabled-entries = whole-entries j (shapeAt j n) es (rw (r .sameTable) (r .table)) (r .whole)
+
 -- ## As the rules write it
 
 module _ (m : Model) (sound : Sound m) (n : ℕ) (isUnique : unique (shapeAt m n) ≡ true) (es : List Entry)
@@ -175,12 +178,16 @@ module _ (m : Model) (sound : Sound m) (n : ℕ) (isUnique : unique (shapeAt m n
         edges = λ e. refl;
       }
 
+  pub both-stands : (s : Shape) → shapeAt (putShape (putTable m its (used es)) n s) n ≡ s
+  unfolding shapeAt putShape putTable
+  both-stands s = put-here (shape-put m sound n is-used s n)
+
   -- The entries and the shape.
   pub both-put : (s : Shape) → unique s ≡ true → FreshShape s its (length es)
       → Retabled m (putShape (putTable m its (used es)) n s) n es
   unfolding shapeAt tableAt edgeAt putShape putTable
   both-put s still fit =
-      let here-it-is = put-here (shape-put m sound n is-used s n) in
+      let here-it-is = both-stands s in
       record {
         sameLimits = simp length-put;
         wasUnique = isUnique;

@@ -1,8 +1,8 @@
 -- The rules for unique shapes: the model stays sound, and every shape but the one acted on is kept.
 -- Assumes nothing.
-use mathlib.Core.Bool.{true, false, and-false}
+use mathlib.Core.Bool.{Bool, true, false, not, and-false}
 use mathlib.Core.List.{List, []}
-use mathlib.Core.Logic.{inl, inr}
+use mathlib.Core.Logic.{inl, inr, _≢_}
 use mathlib.Core.Path.{_≡_, refl, sym, _∙_, ap}
 use Prim.Native.Nat.{ℕ, _+_, _≤_}
 use native.Mathlib.Omega.{arith}
@@ -10,8 +10,9 @@ use borrow.Author.Tests.{eqb-false}
 use lib.Dec.{eqb}
 use lib.ListN.{length}
 use lib.Seq.{take-all}
+use Rattle.slot.specs.If.{if_then_else_}
 use Rattle.slot.specs.Attributes.{goodAttributes, sameWidth}
-use Rattle.store.specs.Model.{used, Limits, Model, shapeAt, tableAt, putTable}
+use Rattle.store.specs.Model.{used, Limits, Model, shapeAt, tableAt, putShape, putTable}
 use Rattle.store.specs.ListLaws.{and-both, Decided, either, not-both}
 use Rattle.store.specs.declared.Shape.{Shape}
 use Rattle.store.specs.declared.Entry.{Entry}
@@ -26,15 +27,32 @@ use Rattle.rules.specs.Sound.{goodEntries}
 use Rattle.rules.specs.Unique.{emptied, replaced, insertUnique, removeUnique, changeUnique, prototypeUnique}
 use Rattle.theorems.specs.Facts.{Used, GoodTable, Sound, unique-used, used-table, shared-not-unique}
 use Rattle.theorems.specs.Entries.{good-appended, length-appended, good-configured, length-configured}
-use Rattle.theorems.specs.Entries.{good-changed, good-without, length-without, length-laid}
+use Rattle.theorems.specs.Entries.{good-changed, good-without, length-without, laid-without-absent}
+use Rattle.theorems.specs.Entries.{length-laid}
 use Rattle.theorems.specs.Frame.{Keeps, keeps-self, keeps-again, kept-used}
 use Rattle.theorems.specs.Grow.{FreshShape, fresh-keeps, fresh-unique}
-use Rattle.theorems.specs.Retabled.{Others, retabled-keeps, table-put, both-put}
+use Rattle.theorems.specs.Made.{prototypeAt, Contents, kept-contents}
+use Rattle.theorems.specs.Retabled.{Retabled, Others, retabled-keeps, retabled-entries, table-put}
+use Rattle.theorems.specs.Retabled.{both-stands, both-put}
 
--- What a rule for the unique shape at n leaves: a unique shape as its result, and every other shape kept.
-pub record Acted (m : Model) (n : ℕ) (y : Placed) : Type 0 where
+-- A unique that has given its keys to another is still there, without keys and with the prototype q.
+pub record Emptied (m : Model) (n q : ℕ) : Type 0 where
+  pub isUsed : Used m n
+  pub contents : Contents m n [] q
+
+-- The unique at n and the one at c that a rule gives: the same number, or another and the old one emptied.
+abbrev pub OldOne : (same : Bool) → Model → (n q c : ℕ) → Type 0
+OldOne true m n q c = c ≡ n
+OldOne false m n q c = (c ≢ n) × Emptied m n q
+
+-- What a rule for the unique shape at n leaves: a unique shape with the entries fs and the prototype p as its
+-- result, and every other shape kept.
+pub record Acted (m : Model) (n : ℕ) (fs : List Entry) (p : ℕ) (same : Bool) (q : ℕ) (y : Placed)
+    : Type 0 where
   pub keeps : Keeps m (y .0) (Others m n)
   pub isUnique : unique (shapeAt (y .0) (y .1)) ≡ true
+  pub contents : Contents (y .0) (y .1) fs p
+  pub oldOne : OldOne same (y .0) n q (y .1)
 
 module _ (m : Model) (sound : Sound m) (n : ℕ) (isUnique : unique (shapeAt m n) ≡ true) where
   abbrev s : Shape
@@ -88,7 +106,7 @@ module _ (m : Model) (sound : Sound m) (n : ℕ) (isUnique : unique (shapeAt m n
 
   -- "Insert and equal-width change act on the same number."
   pub insert-unique-keeps : (k a : ℕ) → goodKey k ≡ true → goodAttributes a ≡ true → has k es ≡ false
-      → (y : Placed) → insertUnique m n k a ≡ ok y → Acted m n y
+      → (y : Placed) → insertUnique m n k a ≡ ok y → Acted m n (appended es k a) (s .prototype) true 0 y
   unfolding insertUnique
   insert-unique-keeps k a key low absent y e =
       let (few, given) = guard-passed KeysFull (eqb (s .properties) (m .K)) _ y e in
@@ -101,12 +119,27 @@ module _ (m : Model) (sound : Sound m) (n : ℕ) (isUnique : unique (shapeAt m n
         room = omega (arith, length-appended es k a);
       } in
       let fit = recounted (s .properties + 1) (length fs) (omega (arith, length-appended es k a)) in
-      let r = both-put m sound n isUnique fs known (withProperties s (s .properties + 1)) isUnique fit in
-      rw (← same-given given, ← whole)
-      record { keeps = retabled-keeps m _ sound n fs r; isUnique = r .isUnique }
+      let next = withProperties s (s .properties + 1) in
+      let r = both-put m sound n isUnique fs known next isUnique fit in
+      let own : (putShape (putTable m (s .table) (used fs)) n next, n) ≡ y = rw whole (same-given given) in
+      rw (← own)
+      record {
+        keeps = retabled-keeps m _ sound n fs r;
+        isUnique = r .isUnique;
+        contents = record {
+          itsEntries = retabled-entries m _ sound n fs r;
+          itsPrototype = ap (λ (x : Shape). x .prototype) (both-stands m sound n isUnique fs known next);
+        };
+        oldOne = refl;
+      }
 
-  pub change-same-keeps : (k a : ℕ) → goodAttributes a ≡ true → sameWidth (attributesIn k es) a ≡ true
-      → Acted m n (putTable m (s .table) (used (configured es k a)), n)
+  same-shape : (fs : List Entry) → prototypeAt (putTable m (s .table) (used fs)) n ≡ s .prototype
+  unfolding shapeAt putTable
+  same-shape fs = refl
+
+  change-same-keeps : (k a : ℕ) → goodAttributes a ≡ true → sameWidth (attributesIn k es) a ≡ true
+      → let fs = configured es k a in
+      Acted m n fs (s .prototype) true 0 (putTable m (s .table) (used fs), n)
   change-same-keeps k a low wide =
       let fit = good .room in
       let long = count in
@@ -116,34 +149,66 @@ module _ (m : Model) (sound : Sound m) (n : ℕ) (isUnique : unique (shapeAt m n
         room = omega arith;
       } in
       let r = table-put m sound n isUnique (configured es k a) known (omega arith) in
-      record { keeps = retabled-keeps m _ sound n _ r; isUnique = r .isUnique }
+      record {
+        keeps = retabled-keeps m _ sound n _ r;
+        isUnique = r .isUnique;
+        contents = record {
+          itsEntries = retabled-entries m _ sound n _ r;
+          itsPrototype = same-shape (configured es k a);
+        };
+        oldOne = refl;
+      }
 
   -- "the old one keeps its number with no keys"
-  pub emptied-keeps : (p : ℕ) → Keeps m (emptied m n p) (Others m n)
+  none : GoodTable (m .K) []
+  none = record { good = refl; room = omega arith }
+
+  retabled : (p : ℕ) → Retabled m (emptied m n p) n []
   unfolding emptied
-  emptied-keeps p =
+  retabled p =
       let held = sound .shapes n is-used .limits .holds in
-      let none : GoodTable (m .K) [] = record { good = refl; room = omega arith } in
       let fit = fresh-unique (s .holds) 0 p (s .table) held in
-      let r = both-put m sound n isUnique [] none (uniqueShape (s .holds) 0 p (s .table)) refl fit in
-      retabled-keeps m _ sound n [] r
+      both-put m sound n isUnique [] none (uniqueShape (s .holds) 0 p (s .table)) refl fit
+
+  left : (p : ℕ) → Emptied (emptied m n p) n p
+  unfolding emptied
+  left p =
+      let stands = both-stands m sound n isUnique [] none (uniqueShape (s .holds) 0 p (s .table)) in
+      record {
+        isUsed = unique-used (shapeAt (emptied m n p) n) (retabled p .isUnique);
+        contents = record {
+          itsEntries = retabled-entries m (emptied m n p) sound n [] (retabled p);
+          itsPrototype = ap (λ (x : Shape). x .prototype) stands;
+        };
+      }
 
   -- "Removal and width change give a new shape", and so does a change of prototype.
   replaced-keeps : (p q : ℕ) (fs : List Entry) → goodEntries fs ≡ true → length fs ≤ length es
-      → (y : Placed) → replaced (emptied m n p) q fs ≡ ok y → Acted m n y
+      → (y : Placed) → replaced (emptied m n p) q fs ≡ ok y → Acted m n fs q false p y
   replaced-keeps p q fs known few y e =
-      let first = emptied-keeps p in
+      let first = retabled-keeps m (emptied m n p) sound n [] (retabled p) in
+      let old = left p in
       let fit = good .room in
       let room = ap (λ (l : Limits). l .K) (first .sameLimits) in
       let table : GoodTable (m .K) fs = record { good = known; room = omega arith } in
       let next = fresh-keeps (emptied m n p) (first .isSound) (uniqueShape 0 (length fs) q) fs
       (λ t. fresh-unique 0 (length fs) q t (omega arith)) (rw room table) y e in
+      let kept = next .keeps .keeps n (old .isUsed) in
       record {
         keeps = keeps-again first (λ k o kept. kept-used (o .0) kept) (next .keeps);
         isUnique = ap unique (next .stands);
+        contents = record {
+          itsEntries = next .itsEntries;
+          itsPrototype = ap (λ (x : Shape). x .prototype) (next .stands);
+        };
+        oldOne = (
+          λ same. not-both (rw same at (next .wasFree)) (old .isUsed),
+          record { isUsed = kept-used (old .isUsed) kept; contents = kept-contents kept (old .contents) },
+        );
       }
 
-  pub remove-unique-keeps : (k : ℕ) (y : Placed) → removeUnique m n k ≡ ok y → Acted m n y
+  pub remove-unique-keeps : (k : ℕ) (y : Placed) → removeUnique m n k ≡ ok y
+      → Acted m n (laid 0 (without es k)) (s .prototype) (not (has k es)) 0 y
   unfolding removeUnique
   remove-unique-keeps k y e = go (either (has k es))
     where
@@ -153,17 +218,25 @@ module _ (m : Model) (sound : Sound m) (n : ℕ) (isUnique : unique (shapeAt m n
       short : length fs ≤ length es
       short = omega (arith, length-laid 0 (without es k), length-without es k)
 
-      go : Decided (has k es) → Acted m n y
-      go (inl q) = replaced-keeps 0 (s .prototype) fs (good-without es k (good .good)) short y (rw q at e)
+      go : Decided (has k es) → Acted m n fs (s .prototype) (not (has k es)) 0 y
+      go (inl q) =
+          let a = replaced-keeps 0 (s .prototype) fs (good-without es k (good .good)) short y (rw q at e) in
+          rw q a
       go (inr q) =
-          rw (← same-given (rw q at e))
+          rw (← same-given (rw q at e), q)
           record {
             keeps = keeps-self sound;
             isUnique = isUnique;
+            contents = record {
+              itsEntries = sym (laid-without-absent k es (good .good) q);
+              itsPrototype = refl;
+            };
+            oldOne = refl;
           }
 
   pub change-unique-keeps : (k a : ℕ) → goodAttributes a ≡ true
-      → (y : Placed) → changeUnique m n k a ≡ ok y → Acted m n y
+      → (y : Placed) → changeUnique m n k a ≡ ok y → let same = sameWidth (attributesIn k es) a in
+      Acted m n (if same then configured es k a else laid 0 (configured es k a)) (s .prototype) same 0 y
   unfolding changeUnique
   change-unique-keeps k a low y e = go (either (sameWidth (attributesIn k es) a))
     where
@@ -173,10 +246,15 @@ module _ (m : Model) (sound : Sound m) (n : ℕ) (isUnique : unique (shapeAt m n
       short : length fs ≤ length es
       short = omega (arith, length-laid 0 (configured es k a), length-configured es k a)
 
-      go : Decided (sameWidth (attributesIn k es) a) → Acted m n y
-      go (inl q) = rw (← same-given (rw q at e)) (change-same-keeps k a low q)
-      go (inr q) = replaced-keeps 0 (s .prototype) fs (good-changed es k a (good .good) low) short y (rw q at e)
+      go : let same = sameWidth (attributesIn k es) a in Decided same
+          → Acted m n (if same then configured es k a else fs) (s .prototype) same 0 y
+      go (inl q) = rw (← same-given (rw q at e), q) (change-same-keeps k a low q)
+      go (inr q) =
+          let known = good-changed es k a (good .good) low in
+          let a = replaced-keeps 0 (s .prototype) fs known short y (rw q at e) in
+          rw q a
 
-  pub prototype-unique-keeps : (p : ℕ) (y : Placed) → prototypeUnique m n p ≡ ok y → Acted m n y
+  pub prototype-unique-keeps : (p : ℕ) (y : Placed) → prototypeUnique m n p ≡ ok y
+      → Acted m n es p false (s .prototype) y
   unfolding prototypeUnique
   prototype-unique-keeps p y e = replaced-keeps (s .prototype) p es (good .good) (omega arith) y e
