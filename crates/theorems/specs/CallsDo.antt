@@ -33,10 +33,11 @@ use Rattle.theorems.specs.Holds.{shape-put, grant-keeps}
 use Rattle.theorems.specs.Taken.{bind-passed}
 use Rattle.theorems.specs.Uniques.{OldOne}
 use Rattle.theorems.specs.Made.{SharedAt, entriesAt, prototypeAt, previousAt, transitionsAt, Contents}
+use Rattle.theorems.specs.Made.{own-good}
 use Rattle.theorems.specs.Made.{kept-contents}
 use Rattle.theorems.specs.SameTrail.{trail-length}
 use Rattle.theorems.specs.Outcomes.{Outcome, byInsert, byChange, byRemoval, byPrototype}
-use Rattle.theorems.specs.Changes.{Gives, Limited, root-gives, unique-gives, own-good, may-act}
+use Rattle.theorems.specs.Changes.{Gives, Limited, root-gives, unique-gives, may-act}
 use Rattle.theorems.specs.Granting.{Granting, insert-grants, change-grants, removal-grants}
 use Rattle.theorems.specs.Granting.{prototype-grants}
 use Rattle.theorems.specs.CallsKeep.{HeldAt, here-gives, previous-gives}

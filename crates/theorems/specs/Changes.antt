@@ -9,15 +9,14 @@ use native.Mathlib.Omega.{arith}
 use borrow.Author.Tests.{eqb-true, eqb-false, not-true, not-false}
 use lib.Dec.{eqb}
 use lib.ListN.{length}
-use lib.Seq.{length-take-le}
 use Rattle.slot.specs.If.{if_then_else_}
 use Rattle.slot.specs.Attributes.{goodAttributes, sameWidth}
-use Rattle.store.specs.Model.{Model, freeShape, shapeAt, tableAt}
+use Rattle.store.specs.Model.{Model, freeShape, shapeAt}
 use Rattle.store.specs.ListLaws.{both-and, or-none, Decided, either, not-both}
 use Rattle.store.specs.declared.Shape.{Shape}
 use Rattle.store.specs.declared.Entry.{Entry}
 use Rattle.rules.specs.Numbers.{goodKey}
-use Rattle.rules.specs.Shapes.{has, attributesIn, shared, unique, isRoot, tableOf, entries, rootShape}
+use Rattle.rules.specs.Shapes.{has, attributesIn, shared, unique, isRoot, entries, rootShape}
 use Rattle.rules.specs.Shapes.{uniqueShape}
 use Rattle.rules.specs.Refusals.{Got, ok, _>>=_}
 use Rattle.rules.specs.Settled.{same-given}
@@ -27,14 +26,13 @@ use Rattle.rules.specs.Unique.{removed, rebased}
 use Rattle.rules.specs.Sweep.{held}
 use Rattle.rules.specs.Calls.{unheld}
 use Rattle.theorems.specs.Facts.{Used, GoodTable, Sound, shared-used, unique-used, shared-not-unique}
-use Rattle.theorems.specs.Facts.{used-table}
-use Rattle.theorems.specs.Entries.{good-take}
 use Rattle.theorems.specs.Frame.{Keeps, keeps-self, keeps-fewer, keeps-again, kept-used}
 use Rattle.theorems.specs.Taken.{bind-passed}
 use Rattle.theorems.specs.Grow.{FreshShape, Fresh, fresh-keeps, fresh-root, fresh-unique}
 use Rattle.theorems.specs.Uniques.{OldOne, Acted, insert-unique-keeps, remove-unique-keeps}
 use Rattle.theorems.specs.Uniques.{change-unique-keeps, prototype-unique-keeps}
 use Rattle.theorems.specs.Made.{SharedAt, entriesAt, prototypeAt, transitionsAt, Contents}
+use Rattle.theorems.specs.Made.{own-good, own-count}
 use Rattle.theorems.specs.InTurn.{stepsEntries, stepsPrototype}
 use Rattle.theorems.specs.Rollback.{rolled-back}
 use Rattle.theorems.specs.Outcomes.{Outcome, byInsert, byChange, byRemoval, byPrototype}
@@ -78,22 +76,6 @@ pub record MayAct (m : Model) (n : ℕ) : Type 0 where
   pub below : transitionsAt m n < 1024
 
 module _ (m : Model) (sound : Sound m) where
-  -- ## The entries of a shape in use
-
-  own-count : (n : ℕ) → Used m n → length (entriesAt m n) ≡ shapeAt m n .properties
-  own-count n u =
-      length-take-le (shapeAt m n .properties) (tableOf m (shapeAt m n)) (sound .shapes n u .countFits)
-
-  pub own-good : (n : ℕ) → Used m n → GoodTable (m .K) (entriesAt m n)
-  own-good n u =
-      let s = shapeAt m n in
-      let its = used-table (tableAt m (s .table)) (sound .shapes n u .tableUsed) in
-      let whole = sound .tables (s .table) (tableOf m s) its in
-      let fits = sound .shapes n u .countFits in
-      let room = whole .room in
-      let count = own-count n u in
-      record { good = good-take (s .properties) (tableOf m s) (whole .good); room = omega arith }
-
   no-entries : GoodTable (m .K) []
   no-entries = record { good = refl; room = omega arith }
 
@@ -142,13 +124,13 @@ module _ (m : Model) (sound : Sound m) where
       u = shared-used s h
 
       fit : (t : ℕ) → FreshShape (uniqueShape 0 (s .properties) (s .prototype) t) t (length (entries m s))
-      fit t = rw (own-count n u) (fresh-unique 0 (s .properties) (s .prototype) t (omega arith))
+      fit t = rw (own-count m sound n u) (fresh-unique 0 (s .properties) (s .prototype) t (omega arith))
 
       go : Decided (eqb (s .transitions) 1024)
           → Gives m (Used m) (entriesAt m n) (prototypeAt m n) y × Limited (transitionsAt m n) (y .0) (y .1)
       go (inl q) =
           let shape = uniqueShape 0 (s .properties) (s .prototype) in
-          let f = fresh-keeps m sound shape (entries m s) fit (own-good n u) y (rw q at e) in
+          let f = fresh-keeps m sound shape (entries m s) fit (own-good m sound n u) y (rw q at e) in
           let same = fresh-holds m shape (entries m s) (λ t. refl) y (rw q at e) in
           let full = eqb-true (s .transitions) 1024 q in (
             fresh-gives (s .prototype) f (λ t. refl) (λ t. refl) (λ t. refl) same,

@@ -17,8 +17,8 @@ use Rattle.rules.specs.Formatted.{format-sound}
 use Rattle.theorems.specs.Entries.{slot-at}
 use Rattle.theorems.specs.Frame.{Kept, kept-root}
 use Rattle.theorems.specs.Made.{SharedAt, entriesAt, prototypeAt}
+use Rattle.theorems.specs.Made.{own-good}
 use Rattle.theorems.specs.SameTrail.{same-trail}
-use Rattle.theorems.specs.Changes.{own-good}
 use Rattle.theorems.specs.CallsKeep.{HeldAt, held-used, call-keeps-shared, sweep-keeps-held}
 use Rattle.theorems.specs.WordsKeep.{sound-read, sound-call, callOn-sound}
 

@@ -24,9 +24,12 @@ use Rattle.rules.specs.Sound.{slotsFrom, goodEntries, stepOf, goodLabel}
 use Rattle.rules.specs.Sweep.{deadened}
 use Rattle.rules.specs.Trails.{madeBy}
 use Rattle.theorems.specs.Facts.{Sound, shared-used, used-place, used-table, transitions-child}
+use Rattle.theorems.specs.Facts.{Used, GoodTable}
 use Rattle.theorems.specs.FactsSound.{its-edge}
 use Rattle.theorems.specs.Frame.{Kept}
 use Rattle.theorems.specs.Entries.{good-slots, good-take, good-appended, good-configured, led-to}
+use lib.Seq.{length-take-le}
+use lib.ListN.{length}
 
 -- The shape at a place is shared, and so in use.
 abbrev pub SharedAt : Model → ℕ → Type 0
@@ -167,12 +170,23 @@ pub record AtRoot (m : Model) (n : ℕ) : Type 0 where
   pub noPrototype : prototypeAt m n ≡ 0
 
 module _ (m : Model) (sound : Sound m) where
-  -- A shared shape has good entries.
-  pub entries-good : (n : ℕ) → SharedAt m n → goodEntries (entriesAt m n) ≡ true
-  entries-good n h =
+  -- A shape in use has good entries, and as many as its property count says.
+  pub own-count : (n : ℕ) → Used m n → length (entriesAt m n) ≡ shapeAt m n .properties
+  own-count n u =
+      length-take-le (shapeAt m n .properties) (tableOf m (shapeAt m n)) (sound .shapes n u .countFits)
+
+  pub own-good : (n : ℕ) → Used m n → GoodTable (m .K) (entriesAt m n)
+  own-good n u =
       let s = shapeAt m n in
-      let its = used-table (tableAt m (s .table)) (sound .shapes n (shared-used s h) .tableUsed) in
-      good-take (s .properties) (tableOf m s) (sound .tables (s .table) (tableOf m s) its .good)
+      let its = used-table (tableAt m (s .table)) (sound .shapes n u .tableUsed) in
+      let whole = sound .tables (s .table) (tableOf m s) its in
+      let fits = sound .shapes n u .countFits in
+      let room = whole .room in
+      let count = own-count n u in
+      record { good = good-take (s .properties) (tableOf m s) (whole .good); room = omega arith }
+
+  pub entries-good : (n : ℕ) → SharedAt m n → goodEntries (entriesAt m n) ≡ true
+  entries-good n h = own-good n (shared-used (shapeAt m n) h) .good
 
   pub made : (n count : ℕ) → SharedAt m n → transitionsAt m n ≡ suc count
       → Made m n count (madeBy m n)

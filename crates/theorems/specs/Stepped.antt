@@ -17,11 +17,11 @@ use Rattle.store.specs.ListLaws.{and-both, both-and, Decided, either, not-both}
 use Rattle.store.specs.declared.Shape.{Shape}
 use Rattle.store.specs.declared.Entry.{Entry}
 use Rattle.store.specs.declared.Edge.{Edge}
-use Rattle.rules.specs.Shapes.{has, pairs, shared, isChild, entries}
+use Rattle.rules.specs.Shapes.{has, shared, isChild, entries}
 use Rattle.rules.specs.Refusals.{ok}
 use Rattle.rules.specs.Settled.{same-given}
-use Rattle.rules.specs.Steps.{Step, insert, configure, prototype, edgeOf, edgeKind, mayStep, stepEntries}
-use Rattle.rules.specs.Steps.{stepPrototype, alike, dead, Placed, pruned, make, along, step}
+use Rattle.rules.specs.Steps.{Step, insert, configure, prototype, edgeOf, edgeKind, mayStep}
+use Rattle.rules.specs.Steps.{alike, dead, Placed, pruned, make, along, step}
 use Rattle.rules.specs.Sound.{stepOf}
 use Rattle.rules.specs.Sweep.{deadened}
 use Rattle.rules.specs.Trails.{madeBy}
@@ -34,16 +34,13 @@ use Rattle.theorems.specs.Prunes.{pruned-keeps, pruned-edge}
 use Rattle.theorems.specs.Child.{Legal, Ready, Grown}
 use Rattle.theorems.specs.Makes.{edge-not-free, legal-again, grown-again, make-keeps}
 
--- What a step leaves: a child of n by that step, with the keys, attributes and prototype that it leads to.
+-- What a step leaves: a child of n by that step. Its contents follow from that (`made`).
 pub record Took (m : Model) (n : ℕ) (t : Step) (y : Placed) : Type 0 where
   pub keeps : Keeps m (y .0) (Used m)
   pub isShared : shared (shapeAt (y .0) (y .1)) ≡ true
   pub previous : shapeAt (y .0) (y .1) .previous ≡ n
   pub oneMore : shapeAt (y .0) (y .1) .transitions ≡ shapeAt m n .transitions + 1
   pub itsStep : madeBy (y .0) (y .1) ≡ t
-  pub samePairs :
-      pairs (entries (y .0) (shapeAt (y .0) (y .1))) ≡ pairs (stepEntries t (entries m (shapeAt m n)))
-  pub itsPrototype : shapeAt (y .0) (y .1) .prototype ≡ stepPrototype t (shapeAt m n .prototype)
 
 grown-took : (m : Model) (n : ℕ) (t : Step) (y : Placed) → Grown m n t y → Took m n t y
 grown-took m n t y g =
@@ -53,8 +50,6 @@ grown-took m n t y g =
       previous = ap (λ (s : Shape). s .previous) (g .stands);
       oneMore = ap (λ (s : Shape). s .transitions) (g .stands);
       itsStep = g .itsStep;
-      samePairs = ap pairs (g .itsEntries);
-      itsPrototype = ap (λ (s : Shape). s .prototype) (g .stands);
     }
 
 -- ## The child that is there
@@ -129,8 +124,6 @@ module _ (m : Model) (sound : Sound m) (n : ℕ) (t : Step) (legal : Legal m n t
         previous = previous;
         oneMore = rw previous at (k .oneMore);
         itsStep = rw (its-edge m sound (x .child) used child, ← itsEdge) same;
-        samePairs = rw (same, previous) at (led .samePairs);
-        itsPrototype = rw (same, previous) at (led .itsPrototype);
       }
 
   -- ## The child that is made
