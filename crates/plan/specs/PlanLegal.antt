@@ -8,11 +8,11 @@ use Rattle.store.specs.Model.{Model}
 use Rattle.rules.specs.Steps.{Step}
 use Rattle.theorems.specs.Facts.{Sound}
 use Rattle.theorems.specs.Made.{SharedAt, entriesAt, transitionsAt}
-use Rattle.theorems.specs.InTurn.{Legal}
+use Rattle.theorems.specs.InTurn.{LegalInTurn}
 use Rattle.theorems.specs.Sequence.{good-label, step-led}
 use Rattle.plan.specs.PlanRight.{LegalSteps}
 
-pub legal-steps : (ts : List Step) (m : Model) → Sound m → (n : ℕ) → SharedAt m n → Legal ts (entriesAt m n)
+pub legal-steps : (ts : List Step) (m : Model) → Sound m → (n : ℕ) → SharedAt m n → LegalInTurn ts (entriesAt m n)
     → transitionsAt m n + length ts ≤ 1024 → LegalSteps ts m n
 legal-steps [] m sound n h legal few = tt
 legal-steps (t ∷ ts) m sound n h (good, may, rest) few = (

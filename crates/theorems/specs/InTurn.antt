@@ -18,9 +18,9 @@ stepsPrototype [] p = p
 stepsPrototype (t ∷ ts) p = stepsPrototype ts (stepPrototype t p)
 
 -- Each step is good and may be taken from the entries that the steps before it lead to.
-abbrev pub Legal : List Step → List Entry → Type 0
-Legal [] es = Unit {0}
-Legal (t ∷ ts) es = (goodStep t ≡ true) × (mayStep t es ≡ true) × Legal ts (stepEntries t es)
+abbrev pub LegalInTurn : List Step → List Entry → Type 0
+LegalInTurn [] es = Unit {0}
+LegalInTurn (t ∷ ts) es = (goodStep t ≡ true) × (mayStep t es ≡ true) × LegalInTurn ts (stepEntries t es)
 
 -- ## Steps and then others
 
@@ -34,7 +34,7 @@ pub prototype-append : (ts us : List Step) (p : ℕ)
 prototype-append [] us p = refl
 prototype-append (t ∷ ts) us p = prototype-append ts us (stepPrototype t p)
 
-pub legal-append : (ts us : List Step) (es : List Entry) → Legal ts es → Legal us (stepsEntries ts es)
-    → Legal (ts ++ us) es
+pub legal-append : (ts us : List Step) (es : List Entry) → LegalInTurn ts es → LegalInTurn us (stepsEntries ts es)
+    → LegalInTurn (ts ++ us) es
 legal-append [] us es l k = k
 legal-append (t ∷ ts) us es (good, may, l) k = (good, may, legal-append ts us (stepEntries t es) l k)

@@ -18,7 +18,7 @@ use Rattle.rules.specs.Steps.{Step, insert, configure, prototype, edgeOf, stepE
 use Rattle.rules.specs.Sound.{distinct}
 use Rattle.theorems.specs.Entries.{keys, has-keys}
 use Rattle.theorems.specs.Made.{goodStep}
-use Rattle.theorems.specs.InTurn.{stepsEntries, stepsPrototype, Legal}
+use Rattle.theorems.specs.InTurn.{stepsEntries, stepsPrototype, LegalInTurn}
 
 -- ## Distinct numbers in two parts
 
@@ -135,7 +135,7 @@ goodInsert (prototype p) = false
 
 -- The steps are legal from the entries es and lead to the keys ks, and from the prototype p to q.
 pub record LeadTo (ts : List Step) (es : List Entry) (p : ℕ) (ks : List ℕ) (q : ℕ) : Type 0 where
-  pub legal : Legal ts es
+  pub legal : LegalInTurn ts es
   pub itsKeys : keys (stepsEntries ts es) ≡ ks
   pub itsPrototype : stepsPrototype ts p ≡ q
 

@@ -21,14 +21,14 @@ use Rattle.rules.specs.Trails.{madeBy, trailOf, trail, root}
 use Rattle.theorems.specs.Facts.{Sound}
 use Rattle.theorems.specs.Made.{SharedAt, entriesAt, prototypeAt, previousAt, transitionsAt, Made, made}
 use Rattle.theorems.specs.Made.{at-root}
-use Rattle.theorems.specs.InTurn.{stepsEntries, stepsPrototype, Legal, entries-append, prototype-append}
+use Rattle.theorems.specs.InTurn.{stepsEntries, stepsPrototype, LegalInTurn, entries-append, prototype-append}
 use Rattle.theorems.specs.InTurn.{legal-append}
 
 -- ## Statements
 
 -- The steps lead from nothing to a shape's contents, each legal where it is taken.
 pub record TellsContents (m : Model) (n : ℕ) (ts : List Step) : Type 0 where
-  pub legal : Legal ts []
+  pub legal : LegalInTurn ts []
   pub itsEntries : entriesAt m n ≡ stepsEntries ts []
   pub itsPrototype : prototypeAt m n ≡ stepsPrototype ts 0
 

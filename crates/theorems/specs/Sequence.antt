@@ -26,7 +26,7 @@ use Rattle.theorems.specs.Frame.{Keeps, keeps-self, keeps-again, kept-us
 use Rattle.theorems.specs.Taken.{bind-passed}
 use Rattle.theorems.specs.Stepped.{step-took}
 use Rattle.theorems.specs.Made.{SharedAt, entriesAt, prototypeAt, transitionsAt, goodStep, made}
-use Rattle.theorems.specs.InTurn.{stepsEntries, stepsPrototype, Legal, entries-append, prototype-append}
+use Rattle.theorems.specs.InTurn.{stepsEntries, stepsPrototype, LegalInTurn, entries-append, prototype-append}
 use Rattle.theorems.specs.SameTrail.{trail-before, root-before}
 use Rattle.theorems.specs.Rollback.{RolledBack, rolled-back}
 
@@ -87,7 +87,7 @@ good-label n (configure k a) es good may =
 good-label n (prototype p) es good may = refl
 
 module _ (m : Model) (sound : Sound m) (n : ℕ) (isShared : SharedAt m n) where
-  pub step-led : (t : Step) → transitionsAt m n < 1024 → Legal (t ∷ []) (entriesAt m n)
+  pub step-led : (t : Step) → transitionsAt m n < 1024 → LegalInTurn (t ∷ []) (entriesAt m n)
       → (y : Placed) → step m n t ≡ ok y → Led m n (t ∷ []) y
   step-led t below (good, may, _) y e =
       let label = good-label n t (entriesAt m n) good may in
@@ -121,7 +121,7 @@ module _ (m : Model) (sound : Sound m) (n : ℕ) (isShared : SharedAt m n) where
 
 -- ## Steps in a row
 
-pub steps-led : (ts : List Step) (m : Model) → Sound m → (n : ℕ) → SharedAt m n → Legal ts (entriesAt m n)
+pub steps-led : (ts : List Step) (m : Model) → Sound m → (n : ℕ) → SharedAt m n → LegalInTurn ts (entriesAt m n)
     → transitionsAt m n + length ts ≤ 1024 → (y : Placed) → steps ts m n ≡ ok y → Led m n ts y
 unfolding steps
 steps-led [] m sound n h legal few y e = rw (← same-given e) (led-self m sound n h)
