@@ -182,11 +182,14 @@ module _ (m : Model) (sound : Sound m) (n : ℕ) (isUnique : unique (shapeAt m n
         };
       }
 
+  pub emptied-keeps : (p : ℕ) → Keeps m (emptied m n p) (Others m n)
+  emptied-keeps p = retabled-keeps m (emptied m n p) sound n [] (retabled p)
+
   -- "Removal and width change give a new shape", and so does a change of prototype.
   replaced-keeps : (p q : ℕ) (fs : List Entry) → goodEntries fs ≡ true → length fs ≤ length es
       → (y : Placed) → replaced (emptied m n p) q fs ≡ ok y → Acted m n fs q false p y
   replaced-keeps p q fs known few y e =
-      let first = retabled-keeps m (emptied m n p) sound n [] (retabled p) in
+      let first = emptied-keeps p in
       let old = left p in
       let fit = good .room in
       let room = ap (λ (l : Limits). l .K) (first .sameLimits) in
