@@ -8,6 +8,7 @@ from dataclasses import dataclass
 from pathlib import Path
 
 import every
+import profiles
 from runs import COLLECTORS, Run, Said, Trouble, hear_both
 
 ROOT = Path(__file__).resolve().parent.parent.parent
@@ -273,10 +274,11 @@ def hold_counters(run):
 
 
 def trail_length(run):
-    """How many prototype steps a run of the profile `limit` begins with, of which later lines know only the last."""
+    """How many prototype steps a run of the profile `limit` begins with, of which later lines know only the last. The
+    shape at their end has to be shared, so they are fewer than the limit."""
     lines = run.lines
     steps = 0
-    while lines[steps + 1].startswith(f"P {steps + 1} "):
+    while steps < profiles.LIMIT - 1 and lines[steps + 1].startswith(f"P {steps + 1} "):
         steps += 1
     return min([steps] + [int(line.split(" ")[1]) - 1 for line in lines[steps + 1:]])
 
