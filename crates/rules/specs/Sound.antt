@@ -46,7 +46,8 @@ eachEdge m test = every (λ e. freeEdge e || test e) (m .edges)
 unfoldable pub inRange : Model → Bool
 inRange m =
     let S = length (m .shapes) in
-    eachShape m (λ n s. leb (s .state) 2 && leb (s .step) 2 && leb (s .previous) S && leb (s .table) (length (m .tables)))
+    let T = length (m .tables) in
+    eachShape m (λ n s. leb (s .state) 2 && leb (s .step) 2 && leb (s .previous) S && leb (s .table) T)
     && eachEdge m (λ e. leb (e .kind) 1 && leb (e .parent) S && leb (e .child) S)
 
 -- "a shape's table is in use;"
