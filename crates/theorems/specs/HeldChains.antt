@@ -20,7 +20,7 @@ use Rattle.rules.specs.Steps.{backward, chain}
 use Rattle.rules.specs.Sweep.{held, reached, swept}
 use Rattle.rules.specs.Calls.{sweep, Freed, perform}
 use Rattle.theorems.specs.Facts.{Used, User, Sound, used-place, transitions-child}
-use Rattle.theorems.specs.Frame.{Kept, Keeps, previous-used}
+use Rattle.theorems.specs.Frame.{Keeps, previous-used}
 use Rattle.theorems.specs.SweepLaws.{AfterSweep, EdgeAfterSweep, left, gone, Swept, swept-to}
 use Rattle.theorems.specs.SweepLaws.{freedBetween, freed-answer}
 use Rattle.theorems.specs.Sweeps.{Closed, sweep-keeps}
@@ -177,13 +177,9 @@ module _ (m : Model) (sound : Sound m) where
   unfolding swept
   swept-on-chain = swept-to (λ n. any (eqb n) (reached m)) (OnHeldChain m) m reached-on-chain
 
-  -- A sweep leaves a sound model and keeps the shapes on the chains of the held ones,
+  -- A sweep leaves a sound model and keeps the shapes on the chains of the held ones.
   pub swept-keeps : Keeps m (swept m) (OnHeldChain m)
   swept-keeps = sweep-keeps sound chain-closed swept-on-chain
-
-  -- with them every held shape, shared or unique.
-  pub held-kept : (n : ℕ) → held (shapeAt m n) ≡ true → Kept m (swept m) n
-  held-kept n h = swept-keeps .keeps n (held-on-its-chain n h)
 
 -- ## What a sweep frees
 
