@@ -1,39 +1,32 @@
--- The first laws of the definitions: refusals, the lowest free place, lookup, prunes.
+-- The first laws of the definitions: refusals, the lowest free place, prunes.
 -- Assumes nothing.
 use mathlib.Core.Bool.{Bool, true, false, not, and-false}
 use mathlib.Core.List.{List}
 use mathlib.Core.Logic.{_↔_, _⊎_, inl, inr, _≢_}
-use mathlib.Core.Option.{Option, none, some}
 use mathlib.Core.Path.{_≡_, refl, sym, _∙_, ap}
 use Prim.Native.Nat.{ℕ, zero, suc, _+_, _≤_, _<_}
 use native.Mathlib.Nat.{not-suc-le-zero, le-of-suc-le-suc}
 use native.Mathlib.Omega.{arith}
 use native.Mathlib.Numerals.{one-add}
-use borrow.Author.Tests.{eqb-true, eqb-false, ne-eqb}
+use borrow.Author.Tests.{ne-eqb}
 use lib.Dec.{eqb·suc-zero}
-use lib.ListN.{length, getD, length-take}
-use lib.Seq.{getD-take}
+use lib.ListN.{length}
 use Rattle.slot.specs.If.{if_then_else_}
 use Rattle.store.specs.Lists.{at, lowest}
-use Rattle.store.specs.Model.{Limits, Model, noEntry, noEdge, shapeAt}
+use Rattle.store.specs.Model.{Limits, Model, noEdge}
 use Rattle.store.specs.Layout.{words, parse, laidOut}
 use Rattle.store.specs.ListLaws.{all-passed}
 use Rattle.store.specs.ThereAndBack.{words-parse}
-use Rattle.store.specs.declared.Shape.{Shape}
-use Rattle.store.specs.declared.Entry.{Entry}
 use Rattle.store.specs.declared.Edge.{Edge}
 use Rattle.rules.specs.declared.Refusal.{Refusal}
-use Rattle.rules.specs.declared.Refusal.the-variants.{Damaged, BadKey, NoShape}
-use Rattle.rules.specs.Numbers.{goodKey}
-use Rattle.rules.specs.Refusals.{ok, refused, _>>_, refuse, place}
-use Rattle.rules.specs.Shapes.{entry, isKey, tableOf, entries}
+use Rattle.rules.specs.declared.Refusal.the-variants.{Damaged}
+use Rattle.rules.specs.Refusals.{ok, refused, place}
 use Rattle.rules.specs.Steps.{dead, prune}
 use Rattle.rules.specs.Sound.{soundModel, wordSentences, soundWords}
-use Rattle.rules.specs.Sweep.{found}
-use Rattle.rules.specs.Calls.{Call, lookup, Answer, Found, NotFound, unheld, slotOf, perform, Reply, No, Yes, call, callOn, formatting, format}
-use Rattle.rules.specs.Settled.{guard-passed, same-given, settle-refused, call-answered}
+use Rattle.rules.specs.Calls.{Call, perform, Reply, No, call, callOn, formatting, format}
+use Rattle.rules.specs.Settled.{settle-refused}
 use Rattle.store.specs.PlaceLaws.{NoneBelow, FirstAt, FirstOrNone, first-or-none, lowest-first, lowest-none}
-use Rattle.store.specs.PlaceLaws.{first-found, first-none, at-map}
+use Rattle.store.specs.PlaceLaws.{at-map}
 
 -- ## A refusal changes nothing
 
@@ -140,82 +133,6 @@ module _ {A : Type 0} (test : A → Bool) (d : A) where
             → (p : ℕ) → 1 ≤ p → p ≤ length xs → test (at xs p d) ≡ false
         there e (inl (k, f)) = let z : _≡_ {A = ℕ} 0 1 = cc (place-first k f) in absurd (omega arith)
         there e (inr h) = to-places xs (length xs) h
-
--- ## A lookup never answers a key at or past the property count
-
--- The entry stands in the shape's table, below its property count.
-pub record OwnEntry (m : Model) (s : Shape) (e : Entry) : Type 0 where
-  pub position : ℕ
-  pub below : position < s .properties
-  pub inside : position < length (tableOf m s)
-  pub there : getD (tableOf m s) position noEntry ≡ e
-
-module _ (m : Model) (s : Shape) (k : ℕ) where
-  -- What is found is the shape's own, and has that key.
-  pub found-own : (e : Entry) → found k (entries m s) ≡ some e → OwnEntry m s e × (e .key ≡ k)
-  found-own e h = go (first-or-none (isKey k) noEntry (entries m s))
-    where
-      go : FirstOrNone (isKey k) noEntry (entries m s) → OwnEntry m s e × (e .key ≡ k)
-      go (inl (p, f)) =
-          let l = f .inside in
-          let n = length-take (s .properties) (tableOf m s) in
-          let below : p < s .properties = omega arith in
-          let its : getD (entries m s) p noEntry ≡ e = cc (first-found (isKey k) noEntry (entries m s) p f) in
-          let there = sym (getD-take (s .properties) (tableOf m s) p noEntry below) ∙ its in
-          let inside : p < length (tableOf m s) = omega arith in
-          let own : OwnEntry m s e = record { position = p; below = below; inside = inside; there = there } in
-          (own, eqb-true (e .key) k (rw its at (f .passes)))
-      go (inr n) =
-          let z : _≡_ {A = ℕ} 0 1 = cc (first-none (isKey k) noEntry (entries m s) n) in absurd (omega arith)
-
-  -- Where nothing is found, no entry of the shape's own has that key.
-  pub none-own : (e : Entry) → found k (entries m s) ≡ none → OwnEntry m s e → e .key ≢ k
-  none-own e h o q = go (first-or-none (isKey k) noEntry (entries m s))
-    where
-      go : FirstOrNone (isKey k) noEntry (entries m s) → ⊥
-      go (inl (p, f)) =
-          let z : _≡_ {A = ℕ} 0 1 = cc (first-found (isKey k) noEntry (entries m s) p f) in omega arith
-      go (inr n) =
-          let inside = o .inside in
-          let below = o .below in
-          let l : o .position < length (entries m s) = rw length-take (omega arith) in
-          let its = getD-take (s .properties) (tableOf m s) (o .position) noEntry below ∙ o .there in
-          eqb-false (e .key) k (rw its at (n (o .position) l)) q
-
-module _ (m : Model) (n k : ℕ) where
-  -- Whatever lookup answers is what is found.
-  answers : (a : Answer) → call m (lookup n k) .1 ≡ Yes a → slotOf (found k (entries m (shapeAt m n))) ≡ a
-  unfolding perform
-  answers a e =
-      let answer : Model × Answer = (m, slotOf (found k (entries m (shapeAt m n)))) in
-      let performed = call-answered m (lookup n k) a e .1 in
-      let below = refuse NoShape (unheld m n) >> ok answer in
-      let good = guard-passed BadKey (not (goodKey k)) below _ performed in
-      let held = guard-passed NoShape (unheld m n) (ok answer) _ (good .1) in
-      ap (λ (p : Model × Answer). p .1) (same-given (held .1))
-
-  -- A slot that lookup answers is that of an entry of the shape's own, with that key,
-  pub lookup-own : (x a : ℕ) → call m (lookup n k) .1 ≡ Yes (Found x a)
-      → OwnEntry m (shapeAt m n) (entry k a x)
-  lookup-own x a h = go (found k (entries m (shapeAt m n))) refl (answers (Found x a) h)
-    where
-      go : (o : Option Entry) → found k (entries m (shapeAt m n)) ≡ o → slotOf o ≡ Found x a
-          → OwnEntry m (shapeAt m n) (entry k a x)
-      go none f e = let z : _≡_ {A = ℕ} 0 1 = cc in absurd (omega arith)
-      go (some own) f e =
-          let (stands, key) = found-own m (shapeAt m n) k own f in
-          let slot : own .slot .0 ≡ x = cc in
-          let attributes : own .attributes ≡ a = cc in
-          rw (← key, ← attributes, ← slot) stands
-
-  -- and where it answers that there is none, no entry of the shape's own has that key.
-  pub lookup-none : call m (lookup n k) .1 ≡ Yes NotFound
-      → (e : Entry) → OwnEntry m (shapeAt m n) e → e .key ≢ k
-  lookup-none h e = none-own m (shapeAt m n) k e (go (found k (entries m (shapeAt m n))) (answers NotFound h))
-    where
-      go : (o : Option Entry) → slotOf o ≡ NotFound → o ≡ none
-      go none e = refl
-      go (some own) e = let z : _≡_ {A = ℕ} 0 1 = cc in absurd (omega arith)
 
 -- ## Pruning
 

@@ -1,3 +1,4 @@
+pub mod Lookups
 pub mod Facts
 pub mod TestsSay
 pub mod SoundFacts
@@ -35,3 +36,4 @@ pub mod WordsKeep
 pub mod Demand3
 pub mod Grants
 pub mod EcmaRuns
+pub mod Instances
