@@ -12,8 +12,8 @@ use Rattle.theorems.specs.InTurn.{LegalInTurn}
 use Rattle.theorems.specs.Sequence.{good-label, step-led}
 use Rattle.plan.specs.PlanRight.{LegalSteps}
 
-pub legal-steps : (ts : List Step) (m : Model) → Sound m → (n : ℕ) → SharedAt m n → LegalInTurn ts (entriesAt m n)
-    → transitionsAt m n + length ts ≤ 1024 → LegalSteps ts m n
+pub legal-steps : (ts : List Step) (m : Model) → Sound m → (n : ℕ) → SharedAt m n
+    → LegalInTurn ts (entriesAt m n) → transitionsAt m n + length ts ≤ 1024 → LegalSteps ts m n
 legal-steps [] m sound n h legal few = tt
 legal-steps (t ∷ ts) m sound n h (good, may, rest) few = (
   record {
@@ -25,5 +25,6 @@ legal-steps (t ∷ ts) m sound n h (good, may, rest) few = (
   λ y e.
       let led = step-led m sound n h t (omega arith) (good, may, tt) y e in
       let count = led .itsCount in
-      legal-steps ts (y .0) (led .keeps .isSound) (y .1) (led .isShared) (rw (led .itsEntries) rest) (omega arith),
+      legal-steps ts (y .0) (led .keeps .isSound) (y .1) (led .isShared)
+      (rw (led .itsEntries) rest) (omega arith),
 )

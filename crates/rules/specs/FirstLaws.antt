@@ -1,6 +1,6 @@
 -- The first laws of the definitions: refusals, the lowest free place, prunes.
 -- Assumes nothing.
-use mathlib.Core.Bool.{Bool, true, false, not, and-false}
+use mathlib.Core.Bool.{Bool, true, false, and-false}
 use mathlib.Core.List.{List}
 use mathlib.Core.Logic.{_↔_, _⊎_, inl, inr, _≢_}
 use mathlib.Core.Path.{_≡_, refl, sym, _∙_, ap}

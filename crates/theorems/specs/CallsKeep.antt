@@ -41,8 +41,8 @@ use Rattle.theorems.specs.Granting.{insert-grants, change-grants, remova
 
 -- ## Statements
 
--- The shapes that a call keeps: all in use. But a change of a unique does not keep that one, and a sweep keeps
--- the held ones and those on their previous chains.
+-- The shapes that a call keeps: all in use. But a change of a unique does not keep that one, and a sweep
+-- keeps the held ones and those on their previous chains.
 abbrev pub KeptBy : Model → Call → ℕ → Type 0
 KeptBy m newRoot = Used m
 KeptBy m newUnique = Used m

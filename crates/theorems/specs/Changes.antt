@@ -20,7 +20,8 @@ use Rattle.rules.specs.Shapes.{has, attributesIn, shared, unique, isRoot, entri
 use Rattle.rules.specs.Shapes.{uniqueShape}
 use Rattle.rules.specs.Refusals.{Got, ok, _>>=_}
 use Rattle.rules.specs.Settled.{same-given}
-use Rattle.rules.specs.Steps.{Step, insert, prototype, Placed, step, removeShared, changeShared, fresh, limited}
+use Rattle.rules.specs.Steps.{Step, insert, prototype, Placed, step, removeShared, changeShared, fresh}
+use Rattle.rules.specs.Steps.{limited}
 use Rattle.rules.specs.Unique.{insertUnique, removeUnique, changeUnique, prototypeUnique, inserted, changed}
 use Rattle.rules.specs.Unique.{removed, rebased}
 use Rattle.rules.specs.Sweep.{held}

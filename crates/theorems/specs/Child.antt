@@ -129,7 +129,8 @@ module _ (m : Model) (sound : Sound m) (n : ℕ) (t : Step) (ready : Ready m n t
     where
       go : (s .table ≡ p) ⊎ (s .table ≢ p) → Longer (tableAt m (s .table)) (tableAt j (s .table))
       go (inl q) = rw (q, table-at p, laid .table) (laid .longer)
-      go (inr q) = rw (table-at (s .table), laid .otherTables (s .table) q) (longer-same (tableAt m (s .table)))
+      go (inr q) =
+          rw (table-at (s .table), laid .otherTables (s .table) q) (longer-same (tableAt m (s .table)))
 
   parent-entries : entries j s ≡ entries m s
   parent-entries = longer-entries m j s parent-longer (sound .shapes n parent-used .countFits)

@@ -40,8 +40,8 @@ pub record Unchanged (m j : Model) (n : ℕ) : Type 0 where
 
 -- What demand 3 says of the words ws. `HeldAt` says that a shape has holds, and `SharedAt` that it is shared.
 --
--- Trails are those of document 01: "the list of steps from its root". A removal or a change of width is no step
--- of its own: it leads to the shape whose trail it ends with, which may have been there before.
+-- Trails are those of document 01: "the list of steps from its root". A removal or a change of width is no
+-- step of its own: it leads to the shape whose trail it ends with, which may have been there before.
 pub record Demand3 (ws : List ℕ) : Type 0 where
   -- Two shared shapes that are held and have one root: the same number exactly when their trails are equal.
   pub numbers : (n k : ℕ) → let m = parse ws in

@@ -1,4 +1,5 @@
--- What the rules do to the entries of a table keeps them good; a slot index is the sum of the widths before it.
+-- What the rules do to the entries of a table keeps them good; a slot index is the sum of the widths before
+-- it.
 -- Assumes nothing.
 use mathlib.Core.Bool.{Bool, true, false, _&&_, _||_, not, false≢true}
 use mathlib.Core.List.{List, [], _∷_, _++_, map}

@@ -62,8 +62,8 @@ pub record ChildSound (m : Model) (n : ℕ) (s p : Shape) : Type 0 where
   pub leadsHere : edgeAt m edge .child ≡ n
   pub onlyEdge : (e : ℕ) → edgeAt m e .child ≡ n → e ≡ edge
   pub fromPrevious : edgeAt m edge .parent ≡ s .previous
-  pub stepped :
-      leads (stepOf (s .step) (edgeAt m edge)) (entries m p) (p .prototype) (entries m s) (s .prototype) ≡ true
+  pub stepped : let t = stepOf (s .step) (edgeAt m edge) in
+      leads t (entries m p) (p .prototype) (entries m s) (s .prototype) ≡ true
 
 -- What is said of a shape s in use at place n.
 pub record ShapeSound (m : Model) (n : ℕ) (s : Shape) : Type 0 where

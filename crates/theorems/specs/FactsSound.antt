@@ -60,7 +60,8 @@ module _ (m : Model) (s : Sound m) where
           → edgeAt m e .child ≤ length (m .shapes)
       go (inl q) = omega (arith, eqb-true (edgeAt m e .child) 0 q)
       go (inr q) =
-          shared-inside (edgeAt m e .child) (s .edges e u .child (eqb-false (edgeAt m e .child) 0 q) .isShared)
+          let c = edgeAt m e .child in
+          shared-inside c (s .edges e u .child (eqb-false c 0 q) .isShared)
 
   range-holds : inRange m ≡ true
   unfolding inRange

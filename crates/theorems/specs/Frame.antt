@@ -1,5 +1,5 @@
--- One theorem for every change: a model that differs from a sound one only as `Change` says is sound, and what
--- stays in it is kept.
+-- One theorem for every change: a model that differs from a sound one only as `Change` says is sound, and
+-- what stays in it is kept.
 -- Assumes nothing.
 use mathlib.Core.Bool.{true, false}
 use mathlib.Core.List.{List}
@@ -50,8 +50,8 @@ pub record Stays (i j : Model) (P : ℕ → Type 0) (n : ℕ) : Type 0 where
       → tableAt j (shapeAt i n .table) ≡ tableAt i (shapeAt i n .table)
   pub edges : (e : ℕ) → edgeAt i e .child ≡ n → edgeAt j e ≡ edgeAt i e
 
--- Each place of j holds a shape that stays, none, or one that is sound by itself and has the table of no unique
--- that stays.
+-- Each place of j holds a shape that stays, none, or one that is sound by itself and has the table of no
+-- unique that stays.
 pub data ShapeCase (i j : Model) (P : ℕ → Type 0) (n : ℕ) : Type 0 where
   stays : P n → ShapeCase i j P n
   vacant : shapeAt j n ≡ noShape → ShapeCase i j P n
@@ -59,8 +59,8 @@ pub data ShapeCase (i j : Model) (P : ℕ → Type 0) (n : ℕ) : Type 0 where
       → ((k : ℕ) → P k → unique (shapeAt i k) ≡ true → shapeAt j n .table ≢ shapeAt i k .table)
       → ShapeCase i j P n
 
--- Each place of j holds an edge as it was between shapes that stay, one from a shape that stays with its child
--- cut off, none, or one that is sound by itself, leads to no shape that stays and is like no other.
+-- Each place of j holds an edge as it was between shapes that stay, one from a shape that stays with its
+-- child cut off, none, or one that is sound by itself, leads to no shape that stays and is like no other.
 pub data EdgeCase (i j : Model) (P : ℕ → Type 0) (e : ℕ) : Type 0 where
   kept : edgeAt j e ≡ edgeAt i e → P (edgeAt i e .parent) → (edgeAt i e .child ≢ 0 → P (edgeAt i e .child))
       → EdgeCase i j P e
@@ -73,7 +73,8 @@ pub record Change (i j : Model) (P : ℕ → Type 0) : Type 0 where
   pub sameLimits : limitsOf j ≡ limitsOf i
   pub staying : (n : ℕ) → P n → Stays i j P n
   pub shapes : (n : ℕ) → ShapeCase i j P n
-  pub tables : (t : ℕ) (es : List Entry) → tableAt j t ≡ used es → (tableAt i t ≡ used es) ⊎ GoodTable (j .K) es
+  pub tables : (t : ℕ) (es : List Entry) → tableAt j t ≡ used es
+      → (tableAt i t ≡ used es) ⊎ GoodTable (j .K) es
   pub users : (t : ℕ) → freeTable (tableAt j t) ≡ false → User j t
   pub edges : (e : ℕ) → EdgeCase i j P e
 
@@ -342,7 +343,8 @@ module _ (i j : Model) (P : ℕ → Type 0) (sound : Sound i) (c : Change i j P)
       let rest = trail-stays count (shapeAt i n .previous) (b .itsPrevious) (b .oneLess) in
       rw (previous-same n p, rest, made-by-stays n p (b .isOfChild))
 
-  back-stays : (count n : ℕ) → P n → shapeAt i n .transitions ≡ count → backward count j n ≡ backward count i n
+  back-stays : (count n : ℕ) → P n → shapeAt i n .transitions ≡ count
+      → backward count j n ≡ backward count i n
   back-stays zero n p e = refl
   back-stays (suc count) n p e =
       let b = before n count p e in
@@ -413,7 +415,8 @@ keeps-again a h b =
 pub kept-used : {i j : Model} {n : ℕ} → Used i n → Kept i j n → Used j n
 kept-used u k = ap freeShape (k .sameCore) ∙ u
 
-pub kept-shared : {i j : Model} {n : ℕ} → shared (shapeAt i n) ≡ true → Kept i j n → shared (shapeAt j n) ≡ true
+pub kept-shared : {i j : Model} {n : ℕ} → shared (shapeAt i n) ≡ true → Kept i j n
+    → shared (shapeAt j n) ≡ true
 kept-shared h k = ap shared (k .sameCore) ∙ h
 
 -- ## What is the same in both

@@ -1,5 +1,5 @@
--- The four changes as calls: where one answers, its tests have passed and its rule has given a result, which is
--- held.
+-- The four changes as calls: where one answers, its tests have passed and its rule has given a result, which
+-- is held.
 -- Assumes nothing.
 use mathlib.Core.Bool.{true, _&&_, not}
 use mathlib.Core.List.{List, [], _∷_, _++_}

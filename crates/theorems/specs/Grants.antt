@@ -42,8 +42,8 @@ holds-follow n place ws (c ∷ cs) e =
 
 -- ## Since a place was free
 
--- From a moment at which the place n was free, since no shape had been made there or a sweep had freed it: its
--- holds with the releases since then are the grants since then.
+-- From a moment at which the place n was free, since no shape had been made there or a sweep had freed it:
+-- its holds with the releases since then are the grants since then.
 pub holds-are-grants : (l : Limits) (ws : List ℕ) → format l ws .1 ≡ Yes Done
     → (before since : List Call) (n : ℕ) → n ≢ 0
     → let image = afterCalls (format l ws .0) before in

@@ -155,10 +155,11 @@ module _ (m : Model) (sound : Sound m) where
             let (h, p) = any-place (any (eqb n)) [] refl (walks m) (sym (any-flat (eqb n) (walks m)) ∙ e) in
             go h (held (shapeAt m h)) refl (sym (walk-at h) ∙ p)
           where
-            go : (h : ℕ) (b : Bool) → held (shapeAt m h) ≡ b → any (eqb n) (if b then chain m h else []) ≡ true
-                → OnHeldChain m n
+            go : (h : ℕ) (b : Bool) → held (shapeAt m h) ≡ b
+                → any (eqb n) (if b then chain m h else []) ≡ true → OnHeldChain m n
             go h true q e =
-                let (k, u, there) = passed (shapeAt m h .transitions) h (held-on-its-chain h q .isUsed) refl e in
+                let v = held-on-its-chain h q .isUsed in
+                let (k, u, there) = passed (shapeAt m h .transitions) h v refl e in
                 record { isUsed = u; holder = h; isHeld = q; links = k; leadHere = there }
             go h false q e = absurd (false≢true e)
 
@@ -242,4 +243,5 @@ sweep-frees m sound =
       where
         unheld : (shapeAt m n .holds ≡ 0) ⊎ (shapeAt m n .holds ≢ 0) → shapeAt m n .holds ≡ 0
         unheld (inl z) = z
-        unheld (inr some) = absurd (away (held-on-its-chain m sound n (rw (ne-eqb (shapeAt m n .holds) 0 some))))
+        unheld (inr some) =
+            absurd (away (held-on-its-chain m sound n (rw (ne-eqb (shapeAt m n .holds) 0 some))))

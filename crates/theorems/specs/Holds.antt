@@ -103,7 +103,8 @@ module _ (m : Model) (sound : Sound m) (n : ℕ) (u : Used m n) where
   grant-keeps action y e few =
       let s = shapeAt m n in
       let after = putShape m n (withHolds s (s .holds + 1)) in
-      let p = guard-passed HoldsFull (leb 65535 (s .holds)) (ok (after, Given n action (s .transitions))) y e in
+      let answer = Given n action (s .transitions) in
+      let p = guard-passed HoldsFull (leb 65535 (s .holds)) (ok (after, answer)) y e in
       let low = leb-false 65535 (s .holds) (p .0) in
       let same : after ≡ y .0 = ap (λ (x : Model × Answer). x .0) (same-given (p .1)) in
       rw same at (holds-put (s .holds + 1) (omega arith) (λ full. absurd (few full)))

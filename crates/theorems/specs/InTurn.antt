@@ -34,7 +34,7 @@ pub prototype-append : (ts us : List Step) (p : ℕ)
 prototype-append [] us p = refl
 prototype-append (t ∷ ts) us p = prototype-append ts us (stepPrototype t p)
 
-pub legal-append : (ts us : List Step) (es : List Entry) → LegalInTurn ts es → LegalInTurn us (stepsEntries ts es)
-    → LegalInTurn (ts ++ us) es
+pub legal-append : (ts us : List Step) (es : List Entry) → LegalInTurn ts es
+    → LegalInTurn us (stepsEntries ts es) → LegalInTurn (ts ++ us) es
 legal-append [] us es l k = k
 legal-append (t ∷ ts) us es (good, may, l) k = (good, may, legal-append ts us (stepEntries t es) l k)

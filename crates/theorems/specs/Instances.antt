@@ -1,13 +1,13 @@
--- Six theorems, each with a small instance that computes. Each has a wrong definition (`across/*.edit`) that makes
--- its instance compute to something else. The theorem is false then, since it gives the instance: `..-follows`,
--- which is proved of the theorem's statement and so does not need the theorem.
+-- Six theorems, each with a small instance that computes. Each has a wrong definition (`across/*.edit`) that
+-- makes its instance compute to something else. The theorem is false then, since it gives the instance:
+-- `..-follows`, which is proved of the theorem's statement and so does not need the theorem.
 -- Assumes nothing.
 use mathlib.Core.Bool.{true, true≢false}
 use mathlib.Core.List.{List, [], _∷_, _++_}
 use mathlib.Core.Logic.{inr}
 use mathlib.Core.Option.{Option, none, some}
 use mathlib.Core.Path.{_≡_, refl, _∙_, ap}
-use Prim.Native.Nat.{ℕ, zero, suc}
+use Prim.Native.Nat.{ℕ}
 use native.Mathlib.Omega.{arith}
 use Rattle.store.specs.Lists.{last}
 use Rattle.store.specs.Model.{Model, used, noShape, noEdge, shapeAt, edgeAt}
@@ -31,7 +31,7 @@ use Rattle.theorems.specs.FactsSound.{facts-sound}
 use Rattle.theorems.specs.Entries.{keys}
 use Rattle.theorems.specs.Child.{Legal}
 use Rattle.theorems.specs.Stepped.{Took, step-took}
-use Rattle.theorems.specs.Made.{SharedAt, entriesAt, transitionsAt}
+use Rattle.theorems.specs.Made.{SharedAt, entriesAt}
 use Rattle.theorems.specs.Keys.{stepKeys}
 use Rattle.theorems.specs.Rollback.{keysAt, RolledBack, rolled-back}
 use Rattle.theorems.specs.Outcomes.{byPrototype}
@@ -42,8 +42,8 @@ use Rattle.theorems.specs.CallsDo.{Says, Changed, prototype-does}
 
 -- ## Two images
 
--- Shapes 1 to 4 have no keys, a, a b, and a b c, in one table; shape 5 is 1 with prototype 9. Only 1 and 4 are
--- held.
+-- Shapes 1 to 4 have no keys, a, a b, and a b c, in one table; shape 5 is 1 with prototype 9. Only 1 and 4
+-- are held.
 abbrev family : Model
 family =
     image

@@ -62,7 +62,8 @@ module _ (m : Model) (s : Shape) (k : ℕ) where
 
 module _ (m : Model) (n k : ℕ) where
   -- Whatever lookup answers is what is found.
-  what-is-found : (a : Answer) → call m (lookup n k) .1 ≡ Yes a → slotOf (found k (entries m (shapeAt m n))) ≡ a
+  what-is-found : (a : Answer) → call m (lookup n k) .1 ≡ Yes a
+      → slotOf (found k (entries m (shapeAt m n))) ≡ a
   unfolding perform
   what-is-found a e =
       let answer : Model × Answer = (m, slotOf (found k (entries m (shapeAt m n)))) in
@@ -89,7 +90,8 @@ module _ (m : Model) (n k : ℕ) where
   -- and where it answers that there is none, no entry of the shape's own has that key.
   pub lookup-none : call m (lookup n k) .1 ≡ Yes NotFound
       → (e : Entry) → OwnEntry m (shapeAt m n) e → e .key ≢ k
-  lookup-none h e = none-own m (shapeAt m n) k e (go (found k (entries m (shapeAt m n))) (what-is-found NotFound h))
+  lookup-none h e =
+      none-own m (shapeAt m n) k e (go (found k (entries m (shapeAt m n))) (what-is-found NotFound h))
     where
       go : (o : Option Entry) → slotOf o ≡ NotFound → o ≡ none
       go none e = refl

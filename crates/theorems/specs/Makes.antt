@@ -43,7 +43,8 @@ module _ (m j : Model) (keeps : Keeps m j (Used m)) (n : ℕ) (t : Step) where
       go : (e : ℕ) → Alike (edgeOf n t 0) (edgeAt j e)
           → (edgeAt j e ≡ edgeAt m e) ⊎ (edgeAt j e ≡ noEdge) → ⊥
       go e l (inl q) = r .noEdge e (rw q at l)
-      go e l (inr q) = edge-not-free m n t (shared-used (shapeAt m n) (r .legal .isShared)) (l ∙ ap deadened q)
+      go e l (inr q) =
+          edge-not-free m n t (shared-used (shapeAt m n) (r .legal .isShared)) (l ∙ ap deadened q)
 
   -- A child made after that is a child made of m.
   pub grown-again : Used m n → (y : Placed) → Grown j n t y → Grown m n t y

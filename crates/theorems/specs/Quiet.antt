@@ -141,7 +141,8 @@ unfolding childTable
 table-given-holds m s (insert k a) y e =
     go (either (eqb (s .properties) (length (tableOf m s)) && not (has k (tableOf m s))))
   where
-    go : Decided (eqb (s .properties) (length (tableOf m s)) && not (has k (tableOf m s))) → SameHolds m (y .0)
+    go : Decided (eqb (s .properties) (length (tableOf m s)) && not (has k (tableOf m s)))
+        → SameHolds m (y .0)
     go (inl q) = rw (← same-given (rw q at e)) (table-holds m (s .table) _)
     go (inr q) = copy-holds m _ y (rw q at e)
 table-given-holds m s (configure k a) y e = copy-holds m _ y e

@@ -1,6 +1,6 @@
 -- Document 01, "Rollback before a held key": the walk back meets the key's insert step, and the steps of a
--- removal and of a change of width from the base are legal, lead to the right keys and prototype, and make the
--- trail no longer.
+-- removal and of a change of width from the base are legal, lead to the right keys and prototype, and make
+-- the trail no longer.
 -- Assumes nothing.
 use mathlib.Core.Bool.{Bool, true, false, false≢true, or-false}
 use mathlib.Core.List.{List, [], _∷_, _++_, map, append-nil}

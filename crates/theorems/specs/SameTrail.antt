@@ -21,7 +21,8 @@ use Rattle.rules.specs.Trails.{madeBy, trailOf, trail, root}
 use Rattle.theorems.specs.Facts.{Sound}
 use Rattle.theorems.specs.Made.{SharedAt, entriesAt, prototypeAt, previousAt, transitionsAt, Made, made}
 use Rattle.theorems.specs.Made.{at-root}
-use Rattle.theorems.specs.InTurn.{stepsEntries, stepsPrototype, LegalInTurn, entries-append, prototype-append}
+use Rattle.theorems.specs.InTurn.{stepsEntries, stepsPrototype, LegalInTurn, entries-append}
+use Rattle.theorems.specs.InTurn.{prototype-append}
 use Rattle.theorems.specs.InTurn.{legal-append}
 
 -- ## Statements

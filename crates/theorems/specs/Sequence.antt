@@ -1,5 +1,5 @@
--- Steps taken one after the other, each legal in its turn; and with them the removal and the change of a key of
--- a shared shape.
+-- Steps taken one after the other, each legal in its turn; and with them the removal and the change of a key
+-- of a shared shape.
 -- Assumes nothing.
 use mathlib.Core.Bool.{true, false}
 use mathlib.Core.List.{List, [], _∷_, _++_, append-nil, append-assoc}
@@ -26,7 +26,8 @@ use Rattle.theorems.specs.Frame.{Keeps, keeps-self, keeps-again, kept-us
 use Rattle.theorems.specs.Taken.{bind-passed}
 use Rattle.theorems.specs.Stepped.{step-took}
 use Rattle.theorems.specs.Made.{SharedAt, entriesAt, prototypeAt, transitionsAt, goodStep, made}
-use Rattle.theorems.specs.InTurn.{stepsEntries, stepsPrototype, LegalInTurn, entries-append, prototype-append}
+use Rattle.theorems.specs.InTurn.{stepsEntries, stepsPrototype, LegalInTurn, entries-append}
+use Rattle.theorems.specs.InTurn.{prototype-append}
 use Rattle.theorems.specs.SameTrail.{trail-before, root-before}
 use Rattle.theorems.specs.Rollback.{RolledBack, rolled-back}
 
@@ -121,8 +122,9 @@ module _ (m : Model) (sound : Sound m) (n : ℕ) (isShared : SharedAt m n) where
 
 -- ## Steps in a row
 
-pub steps-led : (ts : List Step) (m : Model) → Sound m → (n : ℕ) → SharedAt m n → LegalInTurn ts (entriesAt m n)
-    → transitionsAt m n + length ts ≤ 1024 → (y : Placed) → steps ts m n ≡ ok y → Led m n ts y
+pub steps-led : (ts : List Step) (m : Model) → Sound m → (n : ℕ) → SharedAt m n
+    → LegalInTurn ts (entriesAt m n) → transitionsAt m n + length ts ≤ 1024
+    → (y : Placed) → steps ts m n ≡ ok y → Led m n ts y
 unfolding steps
 steps-led [] m sound n h legal few y e = rw (← same-given e) (led-self m sound n h)
 steps-led (t ∷ ts) m sound n h (good, may, rest) few y e =
@@ -149,8 +151,8 @@ module _ (m : Model) (sound : Sound m) (n k : ℕ) (isShared : SharedAt m n)
   unfolding removeShared
   removal-led y e =
       let b = rollback m n k in
-      steps-led (b .newest ++ b .yielded) m sound (b .base) (rolled .found .baseShared) (rolled .removal .legal)
-      (omega (arith, rolled .shorter, most)) y e
+      steps-led (b .newest ++ b .yielded) m sound (b .base) (rolled .found .baseShared)
+      (rolled .removal .legal) (omega (arith, rolled .shorter, most)) y e
 
   -- "Change of width: base, prototype, the key with new attributes, then the yielded keys."
   pub change-led : (a : ℕ) → goodAttributes a ≡ true → sameWidth (attributesIn k (entriesAt m n)) a ≡ false

@@ -115,7 +115,8 @@ module _ (m : Model) (sound : Sound m) (n : ℕ) (t : Step) (legal : Legal m n t
       let itsEdge = k .onlyEdge e refl in
       let stepped = rw (← itsEdge) at (k .stepped) in
       let p = shapeAt m (c .previous) in
-      let led = led-to (stepOf (c .step) x) (entries m p) (p .prototype) (entries m c) (c .prototype) stepped in
+      let its = stepOf (c .step) x in
+      let led = led-to its (entries m p) (p .prototype) (entries m c) (c .prototype) stepped in
       let mayIts = rw previous at (led .may) in
       let same = same-step n (c .step) t x (entries m (shapeAt m n)) l (to .kindFits) (legal .may) mayIts in
       record {

@@ -177,14 +177,16 @@ module _ (m : Model) (n : ℕ) (place : n ≢ 0) where
 
 pub alike-is : (e f : Edge) → alike e f ≡ true → Alike e f
 alike-is e f h =
-    let p = and-both (eqb (e .parent) (f .parent) && eqb (e .kind) (f .kind) && eqb (e .label) (f .label)) h in
-    let q = and-both (eqb (e .parent) (f .parent) && eqb (e .kind) (f .kind)) (p .0) in
-    let r = and-both (eqb (e .parent) (f .parent)) (q .0) in
-    let a = eqb-true (e .parent) (f .parent) (r .0) in
-    let b = eqb-true (e .kind) (f .kind) (r .1) in
-    let c = eqb-true (e .label) (f .label) (q .1) in
-    let d = eqb-true (e .attributes) (f .attributes) (p .1) in
-    λ i. record { parent = a i; kind = b i; label = c i; attributes = d i; child = 0 }
+    let sameParent = eqb (e .parent) (f .parent) in
+    let sameKind = eqb (e .kind) (f .kind) in
+    let p = and-both (sameParent && sameKind && eqb (e .label) (f .label)) h in
+    let q = and-both (sameParent && sameKind) (p .0) in
+    let r = and-both sameParent (q .0) in
+    let parent = eqb-true (e .parent) (f .parent) (r .0) in
+    let kind = eqb-true (e .kind) (f .kind) (r .1) in
+    let label = eqb-true (e .label) (f .label) (q .1) in
+    let attributes = eqb-true (e .attributes) (f .attributes) (p .1) in
+    λ i. record { parent = parent i; kind = kind i; label = label i; attributes = attributes i; child = 0 }
 
 pub is-alike : (e f : Edge) → Alike e f → alike e f ≡ true
 is-alike e f h =

@@ -1,5 +1,5 @@
--- Every call on a sound image, over its words: the image stays sound, its header's limits stay, and it is read
--- as the same call on the model.
+-- Every call on a sound image, over its words: the image stays sound, its header's limits stay, and it is
+-- read as the same call on the model.
 -- Assumes nothing.
 use mathlib.Core.Bool.{true}
 use mathlib.Core.List.{List}
@@ -39,8 +39,8 @@ unfolding sound soundWords laidOut
 words-sound m s limits =
     let (fit, inModel) = facts-sound m s in
     let (headed, tidy) = and-both (goodHeader (words m)) (laid-words m fit) in
-    let limitsGood = ap goodLimits (limits-words m) ∙ limits in
-    rw (passed-all (wordSentences (words m)) (limitsGood and headed and tidy and tt), parse-words m fit) inModel
+    let good = ap goodLimits (limits-words m) ∙ limits in
+    rw (passed-all (wordSentences (words m)) (good and headed and tidy and tt), parse-words m fit) inModel
 
 -- ## A call
 
