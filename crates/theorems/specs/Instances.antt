@@ -72,6 +72,7 @@ abbrev StepTook : Type 0
 StepTook =
     (m : Model) → Sound m → (n : ℕ) (t : Step) → Legal m n t → (y : Placed) → step m n t ≡ ok y → Took m n t y
 
+-- The previous of the shape that a rule gives.
 abbrev previousOf : Got Placed → ℕ
 previousOf (ok (m, n)) = shapeAt m n .previous
 previousOf (refused r) = 0
@@ -108,7 +109,8 @@ RollsBack =
     (m : Model) → Sound m → (n k : ℕ) → SharedAt m n → has k (entriesAt m n) ≡ true
     → RolledBack m n k (rollback m n k)
 
-abbrev keysAgain : ℕ → List ℕ
+-- The keys of shape 4 as the rollback before a key tells them: the base's, the key, and those yielded.
+abbrev keysAgain : (key : ℕ) → List ℕ
 keysAgain k = let back = rollback family 4 k in keysAt family (back .base) ++ k ∷ stepKeys (back .yielded)
 
 later-keys-yielded-follows : RollsBack → a ∷ b ∷ c ∷ [] ≡ keysAgain a
