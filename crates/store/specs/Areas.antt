@@ -2,7 +2,7 @@
 -- Assumes nothing.
 use mathlib.Core.Path.{_≡_}
 use mathlib.Core.Bool.{true}
-use mathlib.Core.List.{List, [], _++_, map, append-nil}
+use mathlib.Core.List.{List, [], _++_, append-nil}
 use Prim.Native.Nat.{ℕ, _+_, _*_}
 use native.Mathlib.Omega.{arith}
 use borrow.Author.Tests.{eqb-true, eq-eqb}
@@ -11,8 +11,8 @@ use lib.Seq.{drop-drop}
 use Rattle.store.specs.Lists.{agree}
 use Rattle.store.specs.Model.{Model, limitsOf}
 use Rattle.store.specs.ListLaws.{and-both, every-always, agree→≡, agree-self}
-use Rattle.store.specs.Layout.{flat, header, limitsIn, total, tablesOffset, edgesOffset, goodHeader}
-use Rattle.store.specs.Layout.{edgeWords, tableWords, words, tidyTables, laidOut, fits}
+use Rattle.store.specs.Layout.{header, limitsIn, total, tablesOffset, edgesOffset, goodHeader}
+use Rattle.store.specs.Layout.{tableArea, edgeArea, words, tidyTables, laidOut, fits}
 use Rattle.store.specs.Rows.{area-length, area-rest}
 use Rattle.store.specs.Records.{shapes-written, edges-written, tables-written}
 
@@ -20,8 +20,7 @@ use Rattle.store.specs.Records.{shapes-written, edges-written, tables-wr
 
 -- Their number, whether or not each table has room.
 pub length-parts : (m : Model)
-    → let tables = flat (map (tableWords (m .K)) (m .tables)) in
-    length (words m) ≡ 8 + 10 * length (m .shapes) + length tables + 5 * length (m .edges)
+    → length (words m) ≡ 8 + 10 * length (m .shapes) + length (tableArea m) + 5 * length (m .edges)
 unfolding words
 length-parts m =
     simp (
@@ -33,14 +32,13 @@ length-parts m =
 
 -- The tables' area, with the edges' after it.
 pub tables-at : (m : Model)
-    → drop (tablesOffset (limitsOf m)) (words m)
-    ≡ flat (map (tableWords (m .K)) (m .tables)) ++ flat (map edgeWords (m .edges))
+    → drop (tablesOffset (limitsOf m)) (words m) ≡ tableArea m ++ edgeArea m
 unfolding words
 tables-at m = rw (← drop-drop) (area-rest shapes-written (m .shapes) _ (every-always (m .shapes)))
 
 -- The edges' area, with nothing after it.
 pub edges-at : (m : Model) → fits m ≡ true
-    → drop (edgesOffset (limitsOf m)) (words m) ≡ flat (map edgeWords (m .edges)) ++ []
+    → drop (edgesOffset (limitsOf m)) (words m) ≡ edgeArea m ++ []
 unfolding fits
 edges-at m e = rw (← drop-drop, tables-at m, append-nil) (area-rest (tables-written (m .K)) (m .tables) _ e)
 

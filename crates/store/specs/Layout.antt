@@ -136,11 +136,17 @@ readTable r = readEntries (getD r 0 0) (drop 1 r)
 
 -- ## The whole image
 
+abbrev pub shapeArea : Model → List ℕ
+shapeArea m = flat (map shapeWords (m .shapes))
+
+abbrev pub tableArea : Model → List ℕ
+tableArea m = flat (map (tableWords (m .K)) (m .tables))
+
+abbrev pub edgeArea : Model → List ℕ
+edgeArea m = flat (map edgeWords (m .edges))
+
 unfoldable pub words : Model → List ℕ
-words m =
-    header (limitsOf m)
-    ++ (flat (map shapeWords (m .shapes))
-    ++ (flat (map (tableWords (m .K)) (m .tables)) ++ flat (map edgeWords (m .edges))))
+words m = header (limitsOf m) ++ (shapeArea m ++ (tableArea m ++ edgeArea m))
 
 -- "Formatting zeroes the slice and writes the header."
 abbrev pub formatted : Limits → List ℕ

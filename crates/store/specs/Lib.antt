@@ -7,3 +7,6 @@ pub mod Rows
 pub mod Records
 pub mod Areas
 pub mod ThereAndBack
+pub mod Spots
+pub mod Image
+pub mod Tables

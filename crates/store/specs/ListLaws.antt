@@ -10,9 +10,9 @@ use native.Mathlib.Numerals.{one-add}
 use native.Mathlib.Omega.{arith}
 use borrow.Author.Tests.{eqb-true, eqb-false, eq-eqb, ne-eqb}
 use lib.Dec.{eqb}
-use lib.ListN.{length, getD, replicate, length-append}
+use lib.ListN.{length, getD, set, replicate, length-append}
 use Rattle.slot.specs.If.{if_then_else_}
-use Rattle.store.specs.Lists.{at, numbered, keep, every, any, last, all, agree, zeros}
+use Rattle.store.specs.Lists.{at, put, numbered, keep, every, any, last, all, agree, zeros}
 use Rattle.store.specs.Layout.{flat}
 use Rattle.store.specs.PlaceLaws.{at-tail}
 
@@ -74,6 +74,17 @@ module _ {A : Type 0} (test : A → Bool) where
   every-make (x ∷ xs) d h =
       rw (h 1 (omega arith) (omega arith))
       (every-make xs d (λ n low high. rw (← (at-tail x xs n d low)) (h (suc n) (omega arith) (omega arith))))
+
+  pub every-set : (xs : List A) (k : ℕ) (y : A) → every test xs ≡ true → test y ≡ true
+      → every test (set xs k y) ≡ true
+  every-set [] k y e h = refl
+  every-set (x ∷ xs) zero y e h = rw h (and-both (test x) e .1)
+  every-set (x ∷ xs) (suc k) y e h = let p = and-both (test x) e in rw (p .0) (every-set xs k y (p .1) h)
+
+  pub every-put : (xs : List A) (n : ℕ) (y : A) → every test xs ≡ true → test y ≡ true
+      → every test (put xs n y) ≡ true
+  every-put xs zero y e h = e
+  every-put xs (suc k) y e h = every-set xs k y e h
 
   pub every-replicate : (n : ℕ) (x : A) → test x ≡ true → every test (replicate n x) ≡ true
   every-replicate zero x h = refl

@@ -83,7 +83,7 @@ tables-written K =
 
 -- ## Room and the test of a table's words
 
-count-less-one : (t : Table) → countWord t - 1 ≡ length (entriesOf t)
+pub count-less-one : (t : Table) → countWord t - 1 ≡ length (entriesOf t)
 count-less-one free = refl
 count-less-one (used es) = omega arith
 

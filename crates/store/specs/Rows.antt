@@ -16,7 +16,7 @@ use Rattle.store.specs.Lists.{every}
 use Rattle.store.specs.ListLaws.{and-both, map-back}
 use Rattle.store.specs.Layout.{rows, flat}
 
-mul-suc-left : (w n : ℕ) → w * suc n ≡ w + w * n
+pub mul-suc-left : (w n : ℕ) → w * suc n ≡ w + w * n
 mul-suc-left w n = mul-suc w n ∙ add-comm (w * n) w
 
 pub length-rows : (w n : ℕ) (ws : List ℕ) → length (rows w n ws) ≡ n

@@ -2,6 +2,10 @@
 // They are the model's records too, so that code and definitions speak of the same things.
 use slot::SlotIndex;
 
+pub mod image;
+mod records;
+mod rows;
+
 // How many edges of each kind were added since the last prune.
 pub struct Counters {
     pub property: u32,

@@ -1,0 +1,19 @@
+use lib.Dec.{lit<}
+use native.Mathlib.Omega.{arith}
+use Rattle.store.specs.Image.{header-there, header-word}
+use borrow.Author.Needs.{needs}
+use Rattle.store.proofs.image.shape_count.Statement.{statement}
+use Rattle.store.proofs.image.shape_count.Tie as tie
+use Rattle.store.proofs.image.shape_count.Reads as reads
+use Rattle.store.proofs.image.shape_count.Lts as lts
+
+-- src/image.rt:49:5
+shared-slice-read-result : tie.Need-shared-slice-read-result
+shared-slice-read-result c = omega (arith, header-there (c .before .pre))
+
+-- src/image.rt:45:1
+returns : tie.Need-returns
+returns c = header-word (c .before .pre) 0 (lit< tt)
+
+pub shape-count-spec : {M : Type 1} → statement M
+shape-count-spec = tie.close (tie.spec shared-slice-read-result returns)
