@@ -15,10 +15,11 @@ use lib.ListN.{length, getD, length-take}
 use lib.Seq.{getD-take}
 use Rattle.slot.specs.If.{if_then_else_}
 use Rattle.store.specs.Lists.{at, lowest}
-use Rattle.store.specs.Model.{Limits, Model, noEntry, noEdge, shapeAt}
+use Rattle.store.specs.Model.{Model, noEntry, noEdge, shapeAt}
 use Rattle.store.specs.Layout.{words, parse, laidOut}
 use Rattle.store.specs.ListLaws.{all-passed}
 use Rattle.store.specs.ThereAndBack.{words-parse}
+use Rattle.store.specs.declared.Limits.{Limits}
 use Rattle.store.specs.declared.Shape.{Shape}
 use Rattle.store.specs.declared.Entry.{Entry}
 use Rattle.store.specs.declared.Edge.{Edge}

@@ -7,3 +7,4 @@ pub mod Rows
 pub mod Records
 pub mod Areas
 pub mod ThereAndBack
+pub mod HeaderLaws
