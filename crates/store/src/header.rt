@@ -65,14 +65,14 @@ pub fn good_header(image: &[u32]) -> bool
     if image.len() < 8 {
         return false;
     }
-    let l = limits_in(image);
-    if !good_limits(l) {
+    let limits = limits_in(image);
+    if !good_limits(limits) {
         return false;
     }
-    let words = total(l);
+    let words = total(limits);
     (image[4] == 8)
-        & (image[5] as usize == tables_offset(l))
-        & (image[6] as usize == edges_offset(l))
+        & (image[5] as usize == tables_offset(limits))
+        & (image[6] as usize == edges_offset(limits))
         & (image[7] as usize == words)
         & (image.len() == words)
 }
