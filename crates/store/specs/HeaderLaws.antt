@@ -1,8 +1,8 @@
 -- The laws of the header: what limits in range say, its test word by word, and formatting part by part.
 -- Assumes nothing.
-use mathlib.Core.Path.{_≡_, refl, sym, ap, _∙_}
-use mathlib.Core.Bool.{Bool, true, false, _&&_, and-assoc, and-true, and-false}
-use mathlib.Core.List.{List, [], _∷_, _++_}
+use mathlib.Core.Path.{_≡_, refl, ap, _∙_}
+use mathlib.Core.Bool.{true, false, _&&_, and-assoc, and-true, and-false}
+use mathlib.Core.List.{List, _++_}
 use Prim.Native.Nat.{ℕ, _+_, _-_, _*_, _≤_, _<_}
 use native.Mathlib.Nat.{mul-le-mul-right}
 use native.Mathlib.Numerals.{add-one}
@@ -11,7 +11,6 @@ use borrow.Author.Tests.{leb-true, eq-eqb, ne-eqb}
 use lib.Dec.{eqb, leb}
 use lib.ListN.{length, getD, take, drop, set, replicate, replicate-append-replicate}
 use lib.Seq.{take-suc-set}
-use Rattle.store.specs.Lists.{agree}
 use Rattle.store.specs.ListLaws.{and-both, all-passed}
 use Rattle.store.specs.Layout.{header, limitsIn, total, tablesOffset, edgesOffset, within}
 use Rattle.store.specs.Layout.{limitSentences, goodLimits, goodHeader, formatted}
@@ -23,7 +22,7 @@ use Rattle.store.specs.declared.Limits.{Limits}
 pub within-high : (low high n : ℕ) → within low high n ≡ true → n ≤ high
 within-high low high n e = leb-true n high (and-both (leb low n) e .1)
 
--- Limits in range, and the bounds that sums and products of them need.
+-- The bounds that sums and products of good limits need.
 pub record InRange (l : Limits) : Type 0 where
   pub keys : l .K ≤ 2048
   pub words : total l ≤ 16777216

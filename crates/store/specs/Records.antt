@@ -9,7 +9,7 @@ use native.Mathlib.Omega.{arith}
 use borrow.Author.Tests.{leb-true, le-leb}
 use lib.Dec.{eqb, leb}
 use lib.ListN.{length, getD, take, drop, replicate, length-append, length-drop, length-map, length-replicate}
-use lib.ListN.{drop-of-length-le, replicate-append-replicate}
+use lib.ListN.{replicate-append-replicate}
 use lib.Seq.{drop-cons, drop-drop, take-all}
 use Rattle.store.specs.Model.{Table, free, used, entriesOf}
 use Rattle.store.specs.ListLaws.{and-both, every-replicate, always, every-always, zeros→replicate}
