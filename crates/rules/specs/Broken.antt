@@ -9,7 +9,8 @@ use Prim.Native.String.{String}
 use lib.ListN.{set, take}
 use Rattle.slot.specs.If.{if_then_else_}
 use Rattle.store.specs.Layout.{flat, rows, words, parse, formatted}
-use Rattle.store.specs.Model.{Limits, blank}
+use Rattle.store.specs.Model.{blank}
+use Rattle.store.specs.declared.Limits.{Limits}
 use Rattle.rules.specs.declared.Refusal.the-variants.{Damaged}
 use Rattle.rules.specs.Sound.{wordSentences, modelSentences, soundWords, sound}
 use Rattle.rules.specs.Calls.{newRoot, newUnique, insertKey, changeKey, changePrototype, hold, release}

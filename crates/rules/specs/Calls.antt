@@ -8,8 +8,9 @@ use lib.Dec.{eqb, ltb, leb}
 use lib.ListN.{length, drop}
 use Rattle.slot.specs.If.{if_then_else_}
 use Rattle.slot.specs.Attributes.{goodAttributes, width}
-use Rattle.store.specs.Model.{Limits, Model, freeShape, freeTable, shapeAt, putShape}
-use Rattle.store.specs.Layout.{total, goodLimits, formatted, words, parse}
+use Rattle.store.specs.Model.{Model, freeShape, freeTable, shapeAt, putShape}
+use Rattle.store.specs.Layout.{formattable, formatted, words, parse}
+use Rattle.store.specs.declared.Limits.{Limits}
 use Rattle.store.specs.declared.Entry.{Entry}
 use Rattle.rules.specs.declared.ChangeTransitionAction.{ChangeTransitionAction}
 use Rattle.rules.specs.declared.ChangeTransitionAction.the-variants.{Nothing, Remove, Insert}
@@ -169,10 +170,10 @@ after m (c ∷ cs) = after (call m c .0) cs
 
 -- ## Formatting
 
--- "BadSize: formatting: a limit or the total out of range, or slice length differs from the total"
+-- "BadSize: formatting"
 abbrev pub formatting : Limits → List ℕ → Got (List ℕ × Answer)
 formatting l ws = do
-  refuse BadSize (not (goodLimits l && eqb (length ws) (total l)))
+  refuse BadSize (not (formattable l ws))
   ok (formatted l, Done)
 
 unfoldable pub format : Limits → List ℕ → List ℕ × Reply

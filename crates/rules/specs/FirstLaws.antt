@@ -13,10 +13,11 @@ use lib.Dec.{eqb·suc-zero}
 use lib.ListN.{length}
 use Rattle.slot.specs.If.{if_then_else_}
 use Rattle.store.specs.Lists.{at, lowest}
-use Rattle.store.specs.Model.{Limits, Model, noEdge}
+use Rattle.store.specs.Model.{Model, noEdge}
 use Rattle.store.specs.Layout.{words, parse, laidOut}
 use Rattle.store.specs.ListLaws.{all-passed}
 use Rattle.store.specs.ThereAndBack.{words-parse}
+use Rattle.store.specs.declared.Limits.{Limits}
 use Rattle.store.specs.declared.Edge.{Edge}
 use Rattle.rules.specs.declared.Refusal.{Refusal}
 use Rattle.rules.specs.declared.Refusal.the-variants.{Damaged}

@@ -1,16 +1,16 @@
 -- A formatted image is sound.
 -- Assumes nothing.
-use mathlib.Core.Bool.{Bool, true, _&&_, not, Bool·not-not}
+use mathlib.Core.Bool.{Bool, true, not, Bool·not-not}
 use mathlib.Core.List.{List}
 use mathlib.Core.Path.{_≡_, refl, sym, _∙_, ap}
 use Prim.Native.Nat.{ℕ, zero, suc}
-use lib.Dec.{eqb}
-use lib.ListN.{length, replicate}
+use lib.ListN.{replicate}
 use Rattle.store.specs.Lists.{numbered, every}
-use Rattle.store.specs.Model.{Limits, Table, free, noShape, noEdge, blank}
-use Rattle.store.specs.Layout.{total, goodLimits, goodHeader, formatted, parse, laidOut}
+use Rattle.store.specs.Model.{Table, free, noShape, noEdge, blank}
+use Rattle.store.specs.Layout.{goodLimits, goodHeader, formattable, formatted, parse, laidOut}
 use Rattle.store.specs.ListLaws.{and-both, _and_, passed-all, every-replicate, every-same}
 use Rattle.store.specs.ThereAndBack.{parse-words, blank-words, fits-blank, laid-formatted}
+use Rattle.store.specs.declared.Limits.{Limits}
 use Rattle.store.specs.declared.Shape.{Shape}
 use Rattle.store.specs.declared.Edge.{Edge}
 use Rattle.rules.specs.declared.Refusal.the-variants.{BadSize}
@@ -85,7 +85,7 @@ formatted-sound l good =
 pub format-sound : (l : Limits) (ws : List ℕ) → format l ws .1 ≡ Yes Done → sound (format l ws .0) ≡ true
 unfolding format
 format-sound l ws e =
-    let fit = goodLimits l && eqb (length ws) (total l) in
+    let fit = formattable l ws in
     let passed = guard-passed BadSize (not fit) _ _ (settle-answered ws (formatting l ws) Done e) in
     let fits = sym (Bool·not-not fit) ∙ ap not (passed .0) in
     rw (← (ap (λ x. x .0) (same-given (passed .1)))) (formatted-sound l (and-both (goodLimits l) fits .0))

@@ -8,7 +8,8 @@ use Prim.Native.Nat.{ℕ, _-_, _*_, _^_}
 use lib.ListN.{replicate}
 use Rattle.store.specs.Lists.{agree}
 use Rattle.store.specs.Layout.{goodLimits, header, flat, rows, words, parse}
-use Rattle.store.specs.Model.{Limits, Model, blank, shapeAt, putShape}
+use Rattle.store.specs.Model.{Model, blank, shapeAt, putShape}
+use Rattle.store.specs.declared.Limits.{Limits}
 use Rattle.rules.specs.declared.Refusal.the-variants.{Damaged, BadKey, BadAttributes, NoShape, Present}
 use Rattle.rules.specs.declared.Refusal.the-variants.{Absent, KeysFull, ShapesFull, TablesFull}
 use Rattle.rules.specs.declared.Refusal.the-variants.{EdgesFull, HoldsFull, BadSize, OutShort}

@@ -8,7 +8,8 @@ use lib.Dec.{eqb, ltb}
 use lib.ListN.{length, getD}
 use Rattle.slot.specs.If.{if_then_else_}
 use Rattle.store.specs.Lists.{first, agree}
-use Rattle.store.specs.Model.{Limits, Model}
+use Rattle.store.specs.Model.{Model}
+use Rattle.store.specs.declared.Limits.{Limits}
 use Rattle.store.specs.Layout.{within}
 use Rattle.rules.specs.declared.ChangeTransitionAction.{ChangeTransitionAction}
 use Rattle.rules.specs.declared.ChangeTransitionAction.the-variants.{Nothing, Remove, Insert}

@@ -4,9 +4,10 @@ use mathlib.Core.List.{List, [], _∷_, map}
 use Prim.Native.Nat.{ℕ, _+_, _*_, _^_}
 use Rattle.slot.specs.Attributes.{present, accessor, width}
 use Rattle.store.specs.Layout.{readShape, readEdge, flat}
+use Rattle.store.specs.declared.Limits.{Limits}
 use Rattle.store.specs.declared.Shape.{Shape}
 use Rattle.store.specs.declared.Edge.{Edge}
-use Rattle.store.specs.Model.{Table, Limits, Model, shapeAt, tableAt, putShape, putTable, putEdge}
+use Rattle.store.specs.Model.{Table, Model, shapeAt, tableAt, putShape, putTable, putEdge}
 use Rattle.rules.specs.declared.ChangeTransitionAction.the-variants.{Nothing}
 use Rattle.rules.specs.Steps.{pruned, counted, childTable, grow, make, step, steps, chain, rollback}
 use Rattle.rules.specs.Steps.{removeShared, changeShared, fresh, limited}

@@ -12,7 +12,7 @@ use lib.Dec.{leb}
 use lib.ListN.{length, getD, take, drop, length-append, List·getD-append}
 use lib.Seq.{getD-drop, getD-take, length-take-le}
 use Rattle.store.specs.Lists.{at, put, every}
-use Rattle.store.specs.Model.{Table, Limits, Model, limitsOf, free, noShape, noEdge, entriesOf}
+use Rattle.store.specs.Model.{Table, Model, limitsOf, free, noShape, noEdge}
 use Rattle.store.specs.Model.{shapeAt, tableAt, edgeAt, putShape, putTable, putEdge}
 use Rattle.store.specs.PlaceLaws.{length-put}
 use Rattle.store.specs.ListLaws.{every-always, every-put, every-place, all-passed, and-both}

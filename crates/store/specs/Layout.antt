@@ -6,7 +6,8 @@ use Prim.Native.Nat.{ℕ, zero, suc, _+_, _-_, _*_}
 use lib.Dec.{eqb, leb}
 use lib.ListN.{length, getD, take, drop, replicate}
 use Rattle.store.specs.Lists.{every, all, agree, zeros}
-use Rattle.store.specs.Model.{Table, free, used, Limits, Model, limitsOf, entriesOf}
+use Rattle.store.specs.Model.{Table, free, used, Model, limitsOf, entriesOf}
+use Rattle.store.specs.declared.Limits.{Limits}
 use Rattle.store.specs.declared.Shape.{Shape}
 use Rattle.store.specs.declared.Entry.{Entry}
 use Rattle.store.specs.declared.Edge.{Edge}
@@ -34,19 +35,25 @@ abbrev pub within : (low high n : ℕ) → Bool
 within low high n = leb low n && leb n high
 
 -- "S, T, E are 1 to 65,535; K 1 to 2,048; total at most 16,777,216."
-abbrev pub goodLimits : Limits → Bool
-goodLimits l =
-    all
-    (within 1 65535 (l .S)
+abbrev pub limitSentences : Limits → List Bool
+limitSentences l =
+    within 1 65535 (l .S)
     ∷ within 1 65535 (l .T)
     ∷ within 1 65535 (l .E)
     ∷ within 1 2048 (l .K)
     ∷ leb (total l) 16777216
-    ∷ [])
+    ∷ []
+
+abbrev pub goodLimits : Limits → Bool
+goodLimits l = all (limitSentences l)
 
 -- "The header agrees with the slice's length."
 abbrev pub goodHeader : List ℕ → Bool
 goodHeader ws = agree (take 8 ws) (header (limitsIn ws)) && eqb (length ws) (total (limitsIn ws))
+
+-- Not "a limit or the total out of range, or slice length differs from the total".
+abbrev pub formattable : Limits → List ℕ → Bool
+formattable l ws = goodLimits l && eqb (length ws) (total l)
 
 -- ## A record's words
 

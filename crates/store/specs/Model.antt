@@ -6,6 +6,7 @@ use Prim.Native.Nat.{ℕ}
 use lib.Dec.{eqb}
 use lib.ListN.{length, replicate}
 use Rattle.store.specs.Lists.{at, put}
+use Rattle.store.specs.declared.Limits.{Limits}
 use Rattle.store.specs.declared.Counters.{Counters}
 use Rattle.store.specs.declared.Shape.{Shape}
 use Rattle.store.specs.declared.Entry.{Entry}
@@ -15,13 +16,6 @@ use Rattle.store.specs.declared.Edge.{Edge}
 pub data Table : Type 0 where
   free : Table
   used : List Entry → Table
-
--- "S shapes, T tables, K keys per table, E edges"
-pub record Limits : Type 0 where
-  pub S : ℕ
-  pub T : ℕ
-  pub K : ℕ
-  pub E : ℕ
 
 -- There are as many shapes, tables and edges as the lists are long.
 pub record Model : Type 0 where

@@ -8,9 +8,9 @@ use native.Mathlib.Nat.{sub-zero}
 use native.Mathlib.Omega.{arith}
 use borrow.Author.Tests.{leb-true, le-leb}
 use lib.Dec.{eqb, leb}
-use lib.ListN.{length, getD, drop, replicate, length-append, length-drop, length-map, length-replicate}
-use lib.ListN.{drop-of-length-le, replicate-append-replicate}
-use lib.Seq.{drop-cons, drop-drop}
+use lib.ListN.{length, getD, take, drop, replicate, length-append, length-drop, length-map, length-replicate}
+use lib.ListN.{replicate-append-replicate}
+use lib.Seq.{drop-cons, drop-drop, take-all}
 use Rattle.store.specs.Model.{Table, free, used, entriesOf}
 use Rattle.store.specs.ListLaws.{and-both, every-replicate, always, every-always, zeros→replicate}
 use Rattle.store.specs.Layout.{rows, flat, shapeWords, readShape, entryWords, readEntry, edgeWords}
@@ -21,24 +21,27 @@ use Rattle.store.specs.Rows.{Written, length-rows, area-length, area-res
 -- ## Shapes, edges and entries
 
 -- The n words from k on, one by one. At a numeral n it computes to them.
-abbrev oneByOne : List ℕ → (k n : ℕ) → List ℕ
+abbrev pub oneByOne : List ℕ → (k n : ℕ) → List ℕ
 oneByOne ws k zero = []
 oneByOne ws k (suc n) = getD ws k 0 ∷ oneByOne ws (suc k) n
 
-read-one-by-one : (ws : List ℕ) (k n : ℕ) → length ws ≡ k + n → oneByOne ws k n ≡ drop k ws
-read-one-by-one ws k zero e = sym (drop-of-length-le ws {i = k} (omega arith))
-read-one-by-one ws k (suc n) e =
+pub read-one-by-one : (ws : List ℕ) (k n : ℕ) → k + n ≤ length ws → oneByOne ws k n ≡ take n (drop k ws)
+read-one-by-one ws k zero h = refl
+read-one-by-one ws k (suc n) h =
     rw (drop-cons ws k 0 (omega arith))
     (ap (λ (r : List ℕ). getD ws k 0 ∷ r) (read-one-by-one ws (suc k) n (omega arith)))
 
+read-whole : (ws : List ℕ) (n : ℕ) → length ws ≡ n → oneByOne ws 0 n ≡ ws
+read-whole ws n e = read-one-by-one ws 0 n (omega arith) ∙ take-all n ws (omega arith)
+
 pub shapes-written : Written 10 shapeWords readShape always always
-shapes-written = record { width = λ s e. refl; back = λ s. refl; there = λ r n e. read-one-by-one r 0 10 n }
+shapes-written = record { width = λ s e. refl; back = λ s. refl; there = λ r n e. read-whole r 10 n }
 
 pub edges-written : Written 5 edgeWords readEdge always always
-edges-written = record { width = λ s e. refl; back = λ s. refl; there = λ r n e. read-one-by-one r 0 5 n }
+edges-written = record { width = λ s e. refl; back = λ s. refl; there = λ r n e. read-whole r 5 n }
 
 pub entries-written : Written 3 entryWords readEntry always always
-entries-written = record { width = λ s e. refl; back = λ s. refl; there = λ r n e. read-one-by-one r 0 3 n }
+entries-written = record { width = λ s e. refl; back = λ s. refl; there = λ r n e. read-whole r 3 n }
 
 -- ## Tables
 

@@ -9,7 +9,8 @@ use native.Mathlib.Omega.{arith}
 use borrow.Author.Tests.{le-leb}
 use lib.ListN.{length, drop, length-map, length-replicate, drop-of-length-le, take-append-drop}
 use lib.ListN.{replicate-append-replicate}
-use Rattle.store.specs.Model.{Limits, Model, limitsOf, blank, free, noShape, noEdge}
+use Rattle.store.specs.Model.{Model, limitsOf, blank, free, noShape, noEdge}
+use Rattle.store.specs.declared.Limits.{Limits}
 use Rattle.store.specs.ListLaws.{every-replicate, every-map, every-then, every-always}
 use Rattle.store.specs.Layout.{flat, header, limitsIn, total, tablesOffset, edgesOffset}
 use Rattle.store.specs.Layout.{shapeWords, edgeWords, tableWidth, tableWords, words, formatted}

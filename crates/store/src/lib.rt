@@ -2,9 +2,18 @@
 // They are the model's records too, so that code and definitions speak of the same things.
 use slot::SlotIndex;
 
+pub mod header;
 pub mod image;
 mod records;
 mod rows;
+
+// Document 01's letters: S shapes, T tables, K keys per table, E edges.
+pub struct Limits {
+    pub S: u32,
+    pub T: u32,
+    pub K: u32,
+    pub E: u32,
+}
 
 // How many edges of each kind were added since the last prune.
 pub struct Counters {

@@ -6,8 +6,9 @@ use mathlib.Core.Logic.{_↔_}
 use mathlib.Core.Path.{_≡_, ap}
 use Prim.Native.Nat.{ℕ, _<_}
 use lib.ListN.{length, take, getD}
-use Rattle.store.specs.Model.{Limits, Model, noEntry, shapeAt}
+use Rattle.store.specs.Model.{Model, noEntry, shapeAt}
 use Rattle.store.specs.Layout.{parse}
+use Rattle.store.specs.declared.Limits.{Limits}
 use Rattle.store.specs.declared.Shape.{Shape}
 use Rattle.rules.specs.Shapes.{widths}
 use Rattle.rules.specs.Sound.{sound}

@@ -11,12 +11,13 @@ use borrow.Author.Tests.{eqb-true, eq-eqb, ne-eqb}
 use lib.Dec.{eqb, ltb, leb}
 use lib.ListN.{length, replicate}
 use Rattle.slot.specs.If.{if_then_else_}
-use Rattle.store.specs.Model.{Limits, Model, noShape, blank, shapeAt}
+use Rattle.store.specs.Model.{Model, noShape, blank, shapeAt}
 use Rattle.store.specs.Lists.{at}
-use Rattle.store.specs.Layout.{total, goodLimits, parse}
+use Rattle.store.specs.Layout.{formattable, parse}
 use Rattle.store.specs.PlaceLaws.{same?}
 use Rattle.store.specs.ListLaws.{and-both, both-and, every-place, every-replicate, Decided, either, not-both}
 use Rattle.store.specs.ThereAndBack.{parse-words, blank-words, fits-blank}
+use Rattle.store.specs.declared.Limits.{Limits}
 use Rattle.store.specs.declared.Shape.{Shape}
 use Rattle.rules.specs.declared.ChangeTransitionAction.{ChangeTransitionAction}
 use Rattle.rules.specs.declared.Refusal.the-variants.{BadKey, NoShape, HoldsFull, BadSize, OutShort}
@@ -347,8 +348,7 @@ none-held : (l : Limits) (ws : List ℕ) → format l ws .1 ≡ Yes Done → (n 
     → shapeAt (parse (format l ws .0)) n .holds ≡ 0
 unfolding format shapeAt
 none-held l ws e n =
-    let fit = goodLimits l && eqb (length ws) (total l) in
-    let passed = guard-passed BadSize (not fit) _ _ (settle-answered ws (formatting l ws) Done e) in
+    let passed = guard-passed BadSize (not (formattable l ws)) _ _ (settle-answered ws (formatting l ws) Done e) in
     let written = ap (λ (x : List ℕ × Answer). x .0) (same-given (passed .1)) in
     let read = ap parse (sym (blank-words l)) ∙ parse-words (blank l) (fits-blank l) in
     let none : Shape → Bool = λ s. eqb (s .holds) 0 in

@@ -11,9 +11,10 @@ use borrow.Author.Tests.{eqb-true}
 use lib.ListN.{length, take, length-take}
 use lib.Seq.{take-take, take-length}
 use Rattle.store.specs.Lists.{last}
-use Rattle.store.specs.Model.{Table, used, Limits, Model, limitsOf, noCounters, noShape, noEdge, freeShape}
+use Rattle.store.specs.Model.{Table, used, Model, limitsOf, noCounters, noShape, noEdge, freeShape}
 use Rattle.store.specs.Model.{freeTable, freeEdge, shapeAt, tableAt, edgeAt, entriesOf}
 use Rattle.store.specs.ListLaws.{Decided, either, not-both}
+use Rattle.store.specs.declared.Limits.{Limits}
 use Rattle.store.specs.declared.Counters.{Counters}
 use Rattle.store.specs.declared.Shape.{Shape}
 use Rattle.store.specs.declared.Entry.{Entry}

@@ -6,7 +6,8 @@ use mathlib.Core.Logic.{_≢_}
 use mathlib.Core.Path.{_≡_, refl}
 use Prim.Native.Nat.{ℕ, _+_}
 use native.Mathlib.Omega.{arith}
-use Rattle.store.specs.Model.{Limits, freeShape, shapeAt}
+use Rattle.store.specs.Model.{freeShape, shapeAt}
+use Rattle.store.specs.declared.Limits.{Limits}
 use Rattle.store.specs.Layout.{parse}
 use Rattle.rules.specs.Sound.{sound}
 use Rattle.rules.specs.Calls.{Call, Done, Yes, callOn, format}

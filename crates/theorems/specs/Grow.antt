@@ -10,11 +10,12 @@ use native.Mathlib.Omega.{arith}
 use lib.ListN.{length}
 use lib.Seq.{take-length}
 use Rattle.store.specs.Lists.{at}
-use Rattle.store.specs.Model.{Table, free, used, Limits, Model, limitsOf, noShape, freeShape, freeTable}
+use Rattle.store.specs.Model.{Table, free, used, Model, limitsOf, noShape, freeShape, freeTable}
 use Rattle.store.specs.Model.{freeEdge, shapeAt, tableAt, edgeAt, putShape, putTable}
 use Rattle.store.specs.PlaceLaws.{length-put, same?, AfterPut, here, elsewhere, after-put, put-here}
 use Rattle.store.specs.PlaceLaws.{put-elsewhere}
 use Rattle.store.specs.ListLaws.{not-both}
+use Rattle.store.specs.declared.Limits.{Limits}
 use Rattle.store.specs.declared.Shape.{Shape}
 use Rattle.store.specs.declared.Entry.{Entry}
 use Rattle.store.specs.declared.Edge.{Edge}

@@ -7,11 +7,12 @@ use mathlib.Core.Path.{_≡_, refl, sym, _∙_, ap}
 use Prim.Native.Nat.{ℕ}
 use native.Mathlib.Omega.{arith}
 use lib.ListN.{length}
-use Rattle.store.specs.Model.{free, putShape, putTable, used, Limits, Model, limitsOf, freeShape, freeTable}
+use Rattle.store.specs.Model.{free, putShape, putTable, used, Model, limitsOf, freeShape, freeTable}
 use Rattle.store.specs.Model.{shapeAt, tableAt, edgeAt}
 use Rattle.store.specs.Lists.{at, put}
 use Rattle.store.specs.PlaceLaws.{length-put, same?, at-inside, AfterPut, after-put, put-here, put-elsewhere}
 use Rattle.store.specs.ListLaws.{Decided, either, not-both}
+use Rattle.store.specs.declared.Limits.{Limits}
 use Rattle.store.specs.declared.Shape.{Shape}
 use Rattle.store.specs.declared.Entry.{Entry}
 use Rattle.rules.specs.Shapes.{shared, unique, entries}

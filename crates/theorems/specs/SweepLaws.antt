@@ -11,9 +11,10 @@ use native.Mathlib.Omega.{arith}
 use lib.ListN.{length, getD, length-map}
 use Rattle.slot.specs.If.{if_then_else_}
 use Rattle.store.specs.Lists.{at, numbered, keep, any}
-use Rattle.store.specs.Model.{Limits, free, Model, limitsOf, noShape, noEdge, freeShape, freeTable, shapeAt}
+use Rattle.store.specs.Model.{free, Model, limitsOf, noShape, noEdge, freeShape, freeTable, shapeAt}
 use Rattle.store.specs.Model.{tableAt, edgeAt}
 use Rattle.store.specs.PlaceLaws.{same?, at-map, at-map-numbered, length-numbered}
+use Rattle.store.specs.declared.Limits.{Limits}
 use Rattle.store.specs.declared.Edge.{Edge}
 use Rattle.rules.specs.Sound.{uses}
 use Rattle.rules.specs.Sweep.{deadened, sweepEdge, sweptTo, inUse}

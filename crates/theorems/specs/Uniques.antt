@@ -12,8 +12,9 @@ use lib.ListN.{length}
 use lib.Seq.{take-all}
 use Rattle.slot.specs.If.{if_then_else_}
 use Rattle.slot.specs.Attributes.{goodAttributes, sameWidth}
-use Rattle.store.specs.Model.{used, Limits, Model, shapeAt, tableAt, putShape, putTable}
+use Rattle.store.specs.Model.{used, Model, shapeAt, tableAt, putShape, putTable}
 use Rattle.store.specs.ListLaws.{and-both, Decided, either, not-both}
+use Rattle.store.specs.declared.Limits.{Limits}
 use Rattle.store.specs.declared.Shape.{Shape}
 use Rattle.store.specs.declared.Entry.{Entry}
 use Rattle.rules.specs.declared.Refusal.the-variants.{KeysFull}
