@@ -11,3 +11,4 @@ pub mod HeaderLaws
 pub mod Spots
 pub mod Image
 pub mod Tables
+pub mod FreePlaces

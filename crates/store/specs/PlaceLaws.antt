@@ -12,7 +12,7 @@ use native.Mathlib.Omega.{arith}
 use borrow.Author.Tests.{eqb-true, eqb-false}
 use lib.Dec.{eqb}
 use lib.ListN.{length, getD, length-set}
-use lib.Seq.{getD-set-same, getD-set-other, set-comm}
+use lib.Seq.{getD-set-same, getD-set-other, set-set, set-comm}
 use Rattle.slot.specs.If.{if_then_else_}
 use Rattle.store.specs.Lists.{at, put, numbered, lowest, first}
 
@@ -49,6 +49,11 @@ module _ {A : Type 0} where
   put-put xs zero k x y h = refl
   put-put xs (suc n) zero x y h = refl
   put-put xs (suc n) (suc k) x y h = set-comm xs n k x y (λ e. h (ap suc e))
+
+  -- The second of two records put at one place stays.
+  pub put-again : (xs : List A) (n : ℕ) (x y : A) → put (put xs n x) n y ≡ put xs n y
+  put-again xs zero x y = refl
+  put-again xs (suc n) x y = set-set xs n x y
 
   -- A test that does not see the change finds the same place.
   pub lowest-put : (test : A → Bool) (start : ℕ) (xs : List A) (n : ℕ) (x d : A) → test x ≡ test (at xs n d)

@@ -13,12 +13,14 @@ use lib.Dec.{eqb}
 use lib.ListN.{length, getD, set, replicate, length-append, length-set, length-replicate}
 use lib.Seq.{set-append-seam}
 use Rattle.store.specs.Model.{Table, free, used, Model, limitsOf, freeTable, tableAt, putTable, entriesOf, noEntry}
+use Rattle.store.specs.PlaceLaws.{at-put-same, put-again}
 use Rattle.store.specs.ListLaws.{every-always, every-place}
 use Rattle.store.specs.Layout.{flat, entryWords, countWord, tableWidth, tableWords, roomFor, fits, parse}
 use Rattle.store.specs.Layout.{tablesOffset}
 use Rattle.store.specs.Records.{entries-written, tables-written, zero-table}
 use Rattle.store.specs.Spots.{spot, part-lent, area-read, area-write}
 use Rattle.store.specs.Image.{Lays, Formed, Place, Row, Becomes, table-row, row-put, becomes, put-table-sizes}
+use Rattle.store.specs.Image.{and-then}
 use Rattle.store.specs.declared.Entry.{Entry}
 
 -- A table in use has one more in its count word than it has entries.
@@ -187,3 +189,19 @@ module _
         let words = n ∙ ap (λ (many : ℕ). replicate many 0) long ∙ sym (zero-table (parse ws .K)) in
         becomes f (row-put its-row free from to words (ap length (zero-table (parse ws .K)) ∙ length-replicate _ 0 ∙ sym wide))
         (put-table-sizes (parse ws) t free)
+
+-- ## A table put twice
+
+pub table-put : (m : Model) (t : ℕ) (x : Table) → Place (length (m .tables)) t → tableAt (putTable m t x) t ≡ x
+unfolding tableAt putTable
+table-put m t x p = at-put-same (m .tables) t x free (p .low) (p .high)
+
+pub table-put-again : (m : Model) (t : ℕ) (x y : Table) → putTable (putTable m t x) t y ≡ putTable m t y
+unfolding putTable
+table-put-again m t x y = rw put-again
+
+-- A change of the table after another one leaves the last.
+pub put-then : {a b c : List ℕ} (m : Model) (t : ℕ) (x y : Table) → Becomes a b (putTable m t x)
+    → Becomes b c (putTable (parse b) t y) → Becomes a c (putTable m t y)
+put-then m t x y first second =
+    rw (← (table-put-again m t x y), ← (first .parsed)) (and-then first second)

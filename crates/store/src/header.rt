@@ -1,10 +1,11 @@
 // The header of the lent image: its test, and formatting.
-use super::Limits;
+use crate::Limits;
+use crate::rows::clear;
 ghost use mathlib.Core.Path.{_≡_};
 ghost use mathlib.Core.Bool.{Bool, _&&_};
 ghost use mathlib.Core.List.{_++_};
 ghost use Prim.Native.Nat.{_≤_};
-ghost use lib.ListN.{length, drop, replicate};
+ghost use lib.ListN.{length, drop};
 ghost use Rattle.slot.specs.If.{if_then_else_};
 ghost use Rattle.store.specs.Layout.{tablesOffset, edgesOffset, total, header, limitsIn};
 ghost use Rattle.store.specs.Layout.{within, goodLimits, goodHeader, formattable, formatted};
@@ -75,16 +76,6 @@ pub fn good_header(image: &[u32]) -> bool
         & (image[6] as usize == edges_offset(limits))
         & (image[7] as usize == words)
         & (image.len() == words)
-}
-
-fn clear(words: &mut [u32])
-    ensures { λ _. ⌜ now (words .exit) ≡ replicate (length (now (words .entry))) 0 ⌝ }
-{
-    let mut i = 0;
-    while i < words.len() {
-        words[i] = 0;
-        i += 1;
-    }
 }
 
 fn write_header(image: &mut [u32], l: Limits)

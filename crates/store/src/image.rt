@@ -8,6 +8,9 @@ use crate::records::read_entry;
 use crate::records::read_shape;
 use crate::records::write_edge;
 use crate::records::write_shape;
+use crate::rows::clear;
+use crate::rows::count_unused;
+use crate::rows::lowest_unused;
 use crate::rows::row;
 use crate::rows::row_at;
 use crate::rows::wide;
@@ -19,6 +22,8 @@ ghost use Prim.Native.Nat.{_+_, _*_, _≤_, _<_};
 ghost use lib.ListN.{length, getD, set};
 ghost use Rattle.store.specs.Model.{limitsOf, shapeAt, putShape, edgeAt, putEdge};
 ghost use Rattle.store.specs.Model.{tableAt, putTable, entriesOf, freeTable, free, used, noEntry};
+ghost use Rattle.store.specs.Model.{freeShape, freeEdge};
+ghost use Rattle.store.specs.Lists.{lowest, keep};
 ghost use Rattle.store.specs.Layout.{tablesOffset, edgesOffset, tableWidth, countWord, tableWords, parse};
 ghost use Rattle.store.specs.Image.{Formed, Place, Becomes};
 
@@ -218,4 +223,73 @@ pub fn start_table(image: &mut [u32], t: u32)
 {
     let at = row_at(image, tables(image), table_width(image), t);
     image[at] = 1;
+}
+
+// Zeroes every word of the table.
+pub fn free_table(image: &mut [u32], t: u32)
+    requires { ⌜ Formed (now image) ⌝ }
+    requires { ⌜ Place (length (parse (now image) .tables)) t ⌝ }
+    ensures { λ _. ⌜
+        Becomes (now (image .entry)) (now (image .exit))
+        (putTable (parse (now (image .entry))) t free)
+        ⌝ }
+{
+    let width = table_width(image);
+    let at = row_at(image, tables(image), width, t);
+    let end = at + width;
+    clear(&mut image[at..end]);
+}
+
+pub fn empty_table(image: &mut [u32], t: u32)
+    requires { ⌜ Formed (now image) ⌝ }
+    requires { ⌜ Place (length (parse (now image) .tables)) t ⌝ }
+    ensures { λ _. ⌜
+        Becomes (now (image .entry)) (now (image .exit))
+        (putTable (parse (now (image .entry))) t (used []))
+        ⌝ }
+{
+    free_table(image, t);
+    start_table(image, t);
+}
+
+pub fn lowest_free_shape(image: &[u32]) -> u32
+    requires { ⌜ Formed (now image) ⌝ }
+    ensures { λ r. ⌜ r ≡ lowest freeShape 1 (parse (now (image .entry)) .shapes) ⌝ }
+{
+    lowest_unused(image, SHAPES, SHAPE_WORDS, shape_count(image))
+}
+
+pub fn free_shapes(image: &[u32]) -> u32
+    requires { ⌜ Formed (now image) ⌝ }
+    ensures { λ r. ⌜ r ≡ length (keep freeShape (parse (now (image .entry)) .shapes)) ⌝ }
+{
+    count_unused(image, SHAPES, SHAPE_WORDS, shape_count(image))
+}
+
+pub fn lowest_free_table(image: &[u32]) -> u32
+    requires { ⌜ Formed (now image) ⌝ }
+    ensures { λ r. ⌜ r ≡ lowest freeTable 1 (parse (now (image .entry)) .tables) ⌝ }
+{
+    lowest_unused(image, tables(image), table_width(image), table_count(image))
+}
+
+pub fn free_tables(image: &[u32]) -> u32
+    requires { ⌜ Formed (now image) ⌝ }
+    ensures { λ r. ⌜ r ≡ length (keep freeTable (parse (now (image .entry)) .tables)) ⌝ }
+{
+    count_unused(image, tables(image), table_width(image), table_count(image))
+}
+
+pub fn lowest_free_edge(image: &[u32]) -> u32
+    requires { ⌜ Formed (now image) ⌝ }
+    ensures { λ r. ⌜ r ≡ lowest freeEdge 1 (parse (now (image .entry)) .edges) ⌝ }
+{
+    lowest_unused(image, edges(image), EDGE_WORDS, edge_count(image))
+}
+
+pub fn free_edges(image: &[u32]) -> u32
+    requires { ⌜ Formed (now image) ⌝ }
+    ensures { λ r. ⌜ r ≡ length (keep freeEdge (parse (now (image .entry)) .edges)) ⌝ }
+{
+    count_unused(image, edges(image), EDGE_WORDS, edge_count(image))
 }

@@ -8,8 +8,8 @@ use denote.Ref.{now}
 use lib.ListN.{length, take, replicate, length-set}
 use lib.Seq.{take-all}
 use Rattle.store.specs.HeaderLaws.{clear-one}
-use Rattle.store.proofs.header.clear.Statement.{statement}
-use Rattle.store.proofs.header.clear.Tie as tie
+use Rattle.store.proofs.rows.clear.Statement.{statement}
+use Rattle.store.proofs.rows.clear.Tie as tie
 
 abbrev Inv-loop : tie.InvT-loop
 Inv-loop words₀ i₀ words i =
