@@ -15,7 +15,7 @@ use lib.ListN.{length, getD, take, drop, length-drop}
 use lib.Seq.{length-take-le, drop-cons, drop-length, drop-drop}
 use Rattle.slot.specs.If.{if_then_else_}
 use Rattle.store.specs.Lists.{at, lowest, keep}
-use Rattle.store.specs.Model.{Model, limitsOf, freeShape, freeTable, freeEdge}
+use Rattle.store.specs.Model.{limitsOf, freeShape, freeTable, freeEdge}
 use Rattle.store.specs.Layout.{rows, readShape, readTable, readEntries, readEdge, tableWidth, total, parse}
 use Rattle.store.specs.Layout.{limitsIn, tablesOffset, edgesOffset, tableRows}
 use Rattle.store.specs.ThereAndBack.{limits-parse}

@@ -2,27 +2,26 @@
 -- Assumes nothing.
 use mathlib.Core.Path.{_≡_, refl, sym, ap, _∙_}
 use mathlib.Core.Bool.{Bool, true}
-use mathlib.Core.List.{List, [], _∷_, _++_, map, append-assoc, append-nil}
+use mathlib.Core.List.{List, [], _++_, map, append-assoc, append-nil}
 use Prim.Native.Nat.{ℕ, suc, _+_, _-_, _*_, _≤_, _<_}
-use native.Mathlib.Nat.{mul-le-mul-left, add-zero}
+use native.Mathlib.Nat.{mul-le-mul-left}
 use native.Mathlib.Omega.{arith}
-use borrow.Author.Tests.{leb-true, le-leb}
-use borrow.Rule.Slice.PartMut.{midOf, putMid, set-mid-at}
-use lib.Dec.{leb}
-use lib.ListN.{length, getD, take, drop, length-append, List·getD-append}
-use lib.Seq.{getD-drop, getD-take, length-take-le}
+use borrow.Author.Tests.{le-leb}
+use borrow.Rule.Slice.PartMut.{midOf, putMid}
+use lib.ListN.{length, getD, drop, length-append, List·getD-append}
+use lib.Seq.{getD-drop, getD-take}
 use Rattle.store.specs.Lists.{at, put, every}
 use Rattle.store.specs.Model.{Table, Model, limitsOf, free, noShape, noEdge}
 use Rattle.store.specs.Model.{shapeAt, tableAt, edgeAt, putShape, putTable, putEdge}
 use Rattle.store.specs.PlaceLaws.{length-put}
-use Rattle.store.specs.ListLaws.{every-always, every-put, every-place, all-passed, and-both}
-use Rattle.store.specs.Layout.{flat, header, limitsIn, total, tablesOffset, edgesOffset, goodLimits}
-use Rattle.store.specs.Layout.{goodHeader, tidyTables, laidOut, fits, roomFor, words, parse}
+use Rattle.store.specs.ListLaws.{every-always, every-put}
+use Rattle.store.specs.Layout.{flat, header, total, tablesOffset, edgesOffset}
+use Rattle.store.specs.Layout.{fits, roomFor, words, parse}
 use Rattle.store.specs.Layout.{shapeWords, edgeWords, tableWords, tableWidth, within}
 use Rattle.store.specs.Layout.{shapeArea, tableArea, edgeArea}
 use Rattle.store.specs.Rows.{Written, area-length, mul-suc-left}
 use Rattle.store.specs.Records.{shapes-written, edges-written, tables-written, narrow-room}
-use Rattle.store.specs.ThereAndBack.{parse-words, words-parse, fits-parse, length-words}
+use Rattle.store.specs.ThereAndBack.{parse-words, length-words}
 use Rattle.store.specs.Spots.{spot, area-read, area-write}
 use Rattle.store.specs.declared.Shape.{Shape}
 use Rattle.store.specs.declared.Edge.{Edge}

@@ -7,7 +7,6 @@ pub mod Rows
 pub mod Records
 pub mod Areas
 pub mod ThereAndBack
-pub mod HeaderLaws
 pub mod Spots
 pub mod Image
 pub mod Tables

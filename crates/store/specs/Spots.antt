@@ -1,14 +1,15 @@
 -- One record of an area, read and replaced where it lies. One law serves every kind of record.
 -- Assumes nothing.
-use mathlib.Core.Path.{_≡_, refl, sym, ap, _∙_}
+use mathlib.Core.Path.{_≡_, ap, _∙_}
 use mathlib.Core.Bool.{Bool, true}
 use mathlib.Core.List.{List, [], _∷_, _++_, map, append-assoc, append-nil}
 use Prim.Native.Nat.{ℕ, zero, suc, _+_, _-_, _*_, _≤_, _<_}
 use native.Mathlib.Nat.{zero-add, mul-zero, not-suc-le-zero, le-of-suc-le-suc}
+use native.Mathlib.Numerals.{add-one}
 use native.Mathlib.Omega.{arith}
 use borrow.Rule.Slice.PartMut.{midOf, putMid}
-use lib.ListN.{length, getD, set, take, drop}
-use lib.Seq.{take-at, drop-at, drop-length, take-append-add, drop-append-add, sets, sets-eq}
+use lib.ListN.{length, getD, set, take, replicate, replicate-append-replicate}
+use lib.Seq.{take-at, drop-at, drop-length, take-append-add, drop-append-add, take-suc-set, sets, sets-eq}
 use Rattle.store.specs.Lists.{at, put, every}
 use Rattle.store.specs.ListLaws.{and-both}
 use Rattle.store.specs.Layout.{flat}
@@ -90,3 +91,10 @@ module _
 -- Each word of a record stored, one by one.
 pub all-stored : (new ws : List ℕ) → length ws ≡ length new → sets ws 0 new ≡ new
 all-stored new ws e = sets-eq new ws 0 (omega arith) ∙ rw (zero-add, ← e, drop-length) (append-nil new)
+
+-- One word more is zero.
+pub clear-one : (ws : List ℕ) (i : ℕ) → i < length ws → take i ws ≡ replicate i 0
+    → take (i + 1) (set ws i 0) ≡ replicate (i + 1) 0
+clear-one ws i h e =
+    rw (add-one, take-suc-set ws i 0 h, e)
+    (replicate-append-replicate i 1 0 ∙ ap (λ (n : ℕ). replicate n 0) (add-one i))

@@ -2,10 +2,9 @@
 // They are the model's records too, so that code and definitions speak of the same things.
 use slot::SlotIndex;
 
-pub mod header;
 pub mod image;
 mod records;
-mod rows;
+pub mod rows;
 
 // Document 01's letters: S shapes, T tables, K keys per table, E edges.
 pub struct Limits {

@@ -1,75 +1,54 @@
-use Rattle.store.specs.Tables.{entries-fit, used-count, entry-inside, set-becomes, added-becomes}
+-- `store::image::append_entry` meets its contract. Assumes nothing.
+use Rattle.store.specs.Tables.{used-count, entry-inside, added-becomes}
 use Rattle.store.specs.Image.{table-row}
 use denote.Ref.{now}
-use Rattle.store.specs.Layout.{parse, countWord}
-use Rattle.store.specs.Model.{tableAt, entriesOf, used}
+use Rattle.store.specs.Layout.{parse}
+use Rattle.store.specs.Model.{tableAt}
 use mathlib.Core.Path.{refl}
-use mathlib.Core.List.{[], _∷_, _++_}
 use native.Mathlib.Omega.{arith}
 use borrow.Author.Needs.{needs}
 use Rattle.store.proofs.image.append_entry.Statement.{statement}
 use Rattle.store.proofs.image.append_entry.Tie as tie
-use Rattle.store.proofs.image.append_entry.Reads as reads
-use Rattle.store.proofs.image.append_entry.Lts as lts
-use Rattle.store.proofs.image.count_word.Reads as count-word-reads
-use Rattle.store.proofs.image.table_width.Reads as table-width-reads
-use Rattle.store.proofs.image.tables.Reads as tables-reads
-use Rattle.store.proofs.records.edit_table.Reads as edit-table-reads
-use Rattle.store.proofs.rows.row_at.Reads as row-at-reads
 
--- src/image.rt:193:9
 count-word-requires : tie.Need-count-word-requires
 count-word-requires c κs = search needs
 
--- src/image.rt:194:9
 table-width-requires : tie.Need-table-width-requires
 table-width-requires c κs = search needs
 
--- src/image.rt:195:28
 tables-requires : tie.Need-tables-requires
 tables-requires c κs = search needs
 
--- src/image.rt:195:9
 row-at-requires : tie.Need-row-at-requires
 row-at-requires c κs = (c .before .before .before .before .before .before .before .pre .1 .0 .low, table-row (c .before .before .before .before .before .before .before .pre .0) (c .tables .ensures) (c .before .before .table-width .ensures) (c .before .before .before .before .before .before .before .pre .1 .0) .inside)
 
--- src/image.rt:196:15
 add-end : tie.Need-add-end
 add-end c = omega (arith, table-row (c .before .before .before .before .before .before .before .before .pre .0) (c .before .tables .ensures) (c .before .before .before .table-width .ensures) (c .before .before .before .before .before .before .before .before .pre .1 .0) .inside)
 
--- src/image.rt:197:16
 mul-edit-table : tie.Need-mul-edit-table
 mul-edit-table c = omega (arith, table-row (c .before .before .before .before .before .before .before .before .pre .0) (c .before .tables .ensures) (c .before .before .before .table-width .ensures) (c .before .before .before .before .before .before .before .before .pre .1 .0) .inside)
 
--- src/image.rt:197:16
 sub-edit-table : tie.Need-sub-edit-table
 sub-edit-table c = search needs
 
--- src/image.rt:197:16
 part-edit-table-start : tie.Need-part-edit-table-start
 part-edit-table-start c = search needs
 
--- src/image.rt:197:16
 part-edit-table-end : tie.Need-part-edit-table-end
 part-edit-table-end c = omega (arith, table-row (c .before .before .before .before .before .before .before .before .pre .0) (c .before .tables .ensures) (c .before .before .before .table-width .ensures) (c .before .before .before .before .before .before .before .before .pre .1 .0) .inside)
 
--- src/image.rt:197:49
 sub-t22 : tie.Need-sub-t22
 sub-t22 c = omega (arith, c .before .before .before .before .before .before .count-word .ensures, used-count (tableAt (parse (now (c .before .before .before .before .before .before .before .before .before .args .image))) (c .before .before .before .before .before .before .before .before .before .args .t)) (c .before .before .before .before .before .before .before .before .before .pre .1 .1 .0))
 
--- src/image.rt:197:64
 add-edit-table : tie.Need-add-edit-table
 add-edit-table c = omega (arith, c .before .before .before .before .before .before .count-word .ensures, used-count (tableAt (parse (now (c .before .before .before .before .before .before .before .before .before .args .image))) (c .before .before .before .before .before .before .before .before .before .args .t)) (c .before .before .before .before .before .before .before .before .before .pre .1 .1 .0))
 
--- src/image.rt:197:5
 edit-table-requires : tie.Need-edit-table-requires
 edit-table-requires c κs = entry-inside (c .before .before .before .before .before .before .before .before .before .pre .0) (c .before .before .before .before .before .before .before .before .before .pre .1 .0) (c .before .before .tables .ensures) (c .before .before .before .before .table-width .ensures) (c .before .row-at .ensures) refl _ (omega (arith, c .before .before .before .before .before .before .count-word .ensures, used-count (tableAt (parse (now (c .before .before .before .before .before .before .before .before .before .args .image))) (c .before .before .before .before .before .before .before .before .before .args .t)) (c .before .before .before .before .before .before .before .before .before .pre .1 .1 .0)))
 
--- src/image.rt:182:1
 same-length : tie.Need-same-length
 same-length c = search needs
 
--- src/image.rt:182:1
 returns : tie.Need-returns
 returns c = added-becomes (c .before .before .before .before .before .before .before .before .before .before .before .before .pre .0) (c .before .before .before .before .before .before .before .before .before .before .before .before .pre .1 .0) (c .before .before .before .before .before .tables .ensures) (c .before .before .before .before .before .before .before .table-width .ensures) (c .before .before .before .before .row-at .ensures) refl (c .before .before .before .before .before .before .before .before .before .before .before .before .args .e) (c .before .before .before .before .before .before .before .before .before .before .before .before .pre .1 .1 .0) (c .before .before .before .before .before .before .before .before .before .before .before .before .pre .1 .1 .1) (c .before .before .before .before .before .before .before .before .before .count-word .ensures) refl refl (c .before .before .edit-table .ensures)
 

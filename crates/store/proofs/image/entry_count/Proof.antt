@@ -1,3 +1,4 @@
+-- `store::image::entry_count` meets its contract. Assumes nothing.
 use denote.Ref.{now}
 use Rattle.store.specs.Layout.{parse}
 use Rattle.store.specs.Model.{tableAt}
@@ -6,23 +7,16 @@ use native.Mathlib.Omega.{arith}
 use borrow.Author.Needs.{needs}
 use Rattle.store.proofs.image.entry_count.Statement.{statement}
 use Rattle.store.proofs.image.entry_count.Tie as tie
-use Rattle.store.proofs.image.entry_count.Reads as reads
-use Rattle.store.proofs.image.entry_count.Lts as lts
-use Rattle.store.proofs.image.count_word.Reads as count-word-reads
 
--- src/image.rt:149:9
 count-word-requires : tie.Need-count-word-requires
 count-word-requires c κs = search needs
 
--- src/image.rt:150:32
 sub-result : tie.Need-sub-result
 sub-result c = search needs
 
--- src/image.rt:144:1
 returns : tie.Need-returns
 returns c = omega (arith, count-less-one (tableAt (parse (now (c .before .before .before .args .image))) (c .before .before .before .args .t)))
 
--- src/image.rt:144:1
 returns-2 : tie.Need-returns-2
 returns-2 c = omega (arith, count-less-one (tableAt (parse (now (c .before .before .before .args .image))) (c .before .before .before .args .t)))
 

@@ -1,26 +1,18 @@
+-- `store::image::free_edges` meets its contract. Assumes nothing.
 use Rattle.store.specs.FreePlaces.{edges-listed, count-listed}
 use borrow.Author.Needs.{needs}
 use Rattle.store.proofs.image.free_edges.Statement.{statement}
 use Rattle.store.proofs.image.free_edges.Tie as tie
-use Rattle.store.proofs.image.free_edges.Reads as reads
-use Rattle.store.proofs.image.free_edges.Lts as lts
-use Rattle.store.proofs.image.edge_count.Reads as edge-count-reads
-use Rattle.store.proofs.image.edges.Reads as edges-reads
-use Rattle.store.proofs.rows.count_unused.Reads as count-unused-reads
 
--- src/image.rt:294:25
 edges-requires : tie.Need-edges-requires
 edges-requires c κs = search needs
 
--- src/image.rt:294:51
 edge-count-requires : tie.Need-edge-count-requires
 edge-count-requires c κs = search needs
 
--- src/image.rt:294:5
 count-unused-requires : tie.Need-count-unused-requires
 count-unused-requires c κs = edges-listed (c .before .before .before .pre) (c .before .edges .ensures) (c .edge-count .ensures) .area
 
--- src/image.rt:290:1
 returns : tie.Need-returns
 returns c = count-listed (edges-listed (c .before .before .before .before .pre) (c .before .before .edges .ensures) (c .before .edge-count .ensures)) (c .count-unused .ensures)
 

@@ -1,3 +1,4 @@
+-- `store::image::free_table` meets its contract. Assumes nothing.
 use Rattle.store.specs.Tables.{cleared-becomes}
 use Rattle.store.specs.Image.{table-row}
 use mathlib.Core.Path.{refl}
@@ -5,54 +6,37 @@ use native.Mathlib.Omega.{arith}
 use borrow.Author.Needs.{needs}
 use Rattle.store.proofs.image.free_table.Statement.{statement}
 use Rattle.store.proofs.image.free_table.Tie as tie
-use Rattle.store.proofs.image.free_table.Reads as reads
-use Rattle.store.proofs.image.free_table.Lts as lts
-use Rattle.store.proofs.image.table_width.Reads as table-width-reads
-use Rattle.store.proofs.image.tables.Reads as tables-reads
-use Rattle.store.proofs.rows.clear.Reads as clear-reads
-use Rattle.store.proofs.rows.row_at.Reads as row-at-reads
 
--- src/image.rt:237:9
 table-width-requires : tie.Need-table-width-requires
 table-width-requires c κs = search needs
 
--- src/image.rt:238:28
 tables-requires : tie.Need-tables-requires
 tables-requires c κs = search needs
 
--- src/image.rt:238:9
 row-at-requires : tie.Need-row-at-requires
 row-at-requires c κs = (c .before .before .before .before .before .pre .1 .low, table-row (c .before .before .before .before .before .pre .0) (c .tables .ensures) (c .before .before .table-width .ensures) (c .before .before .before .before .before .pre .1) .inside)
 
--- src/image.rt:239:15
 add-end : tie.Need-add-end
 add-end c = omega (arith, table-row (c .before .before .before .before .before .before .pre .0) (c .before .tables .ensures) (c .before .before .before .table-width .ensures) (c .before .before .before .before .before .before .pre .1) .inside)
 
--- src/image.rt:240:11
 mul-clear : tie.Need-mul-clear
 mul-clear c = omega (arith, table-row (c .before .before .before .before .before .before .pre .0) (c .before .tables .ensures) (c .before .before .before .table-width .ensures) (c .before .before .before .before .before .before .pre .1) .inside)
 
--- src/image.rt:240:11
 sub-clear : tie.Need-sub-clear
 sub-clear c = search needs
 
--- src/image.rt:240:11
 part-clear-start : tie.Need-part-clear-start
 part-clear-start c = search needs
 
--- src/image.rt:240:11
 part-clear-end : tie.Need-part-clear-end
 part-clear-end c = omega (arith, table-row (c .before .before .before .before .before .before .pre .0) (c .before .tables .ensures) (c .before .before .before .table-width .ensures) (c .before .before .before .before .before .before .pre .1) .inside)
 
--- src/image.rt:240:5
 clear-requires : tie.Need-clear-requires
 clear-requires c κs = search needs
 
--- src/image.rt:229:1
 same-length : tie.Need-same-length
 same-length c = search needs
 
--- src/image.rt:229:1
 returns : tie.Need-returns
 returns c = cleared-becomes (c .before .before .before .before .before .before .before .before .before .before .pre .0) (c .before .before .before .before .before .before .before .before .before .before .pre .1) (c .before .before .before .before .before .tables .ensures) (c .before .before .before .before .before .before .before .table-width .ensures) (c .before .before .before .before .row-at .ensures) refl (c .before .before .clear .ensures)
 

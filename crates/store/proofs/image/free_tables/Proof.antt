@@ -1,31 +1,21 @@
+-- `store::image::free_tables` meets its contract. Assumes nothing.
 use Rattle.store.specs.FreePlaces.{tables-listed, count-listed}
 use borrow.Author.Needs.{needs}
 use Rattle.store.proofs.image.free_tables.Statement.{statement}
 use Rattle.store.proofs.image.free_tables.Tie as tie
-use Rattle.store.proofs.image.free_tables.Reads as reads
-use Rattle.store.proofs.image.free_tables.Lts as lts
-use Rattle.store.proofs.image.table_count.Reads as table-count-reads
-use Rattle.store.proofs.image.table_width.Reads as table-width-reads
-use Rattle.store.proofs.image.tables.Reads as tables-reads
-use Rattle.store.proofs.rows.count_unused.Reads as count-unused-reads
 
--- src/image.rt:280:25
 tables-requires : tie.Need-tables-requires
 tables-requires c κs = search needs
 
--- src/image.rt:280:40
 table-width-requires : tie.Need-table-width-requires
 table-width-requires c κs = search needs
 
--- src/image.rt:280:60
 table-count-requires : tie.Need-table-count-requires
 table-count-requires c κs = search needs
 
--- src/image.rt:280:5
 count-unused-requires : tie.Need-count-unused-requires
 count-unused-requires c κs = tables-listed (c .before .before .before .before .pre) (c .before .before .tables .ensures) (c .before .table-width .ensures) (c .table-count .ensures) .area
 
--- src/image.rt:276:1
 returns : tie.Need-returns
 returns c = count-listed (tables-listed (c .before .before .before .before .before .pre) (c .before .before .before .tables .ensures) (c .before .before .table-width .ensures) (c .before .table-count .ensures)) (c .count-unused .ensures)
 

@@ -1,3 +1,4 @@
+-- `store::image::get_edge` meets its contract. Assumes nothing.
 use Rattle.store.specs.Image.{edge-row}
 use Rattle.store.specs.Layout.{readEdge}
 use lib.ListN.{length}
@@ -5,25 +6,16 @@ use mathlib.Core.Path.{_∙_, ap}
 use borrow.Author.Needs.{needs}
 use Rattle.store.proofs.image.get_edge.Statement.{statement}
 use Rattle.store.proofs.image.get_edge.Tie as tie
-use Rattle.store.proofs.image.get_edge.Reads as reads
-use Rattle.store.proofs.image.get_edge.Lts as lts
-use Rattle.store.proofs.image.edges.Reads as edges-reads
-use Rattle.store.proofs.rows.row.Reads as row-reads
-use Rattle.store.proofs.records.read_edge.Reads as read-edge-reads
 
--- src/image.rt:119:26
 edges-requires : tie.Need-edges-requires
 edges-requires c κs = search needs
 
--- src/image.rt:119:15
 row-requires : tie.Need-row-requires
 row-requires c κs = (c .before .before .pre .1 .low, edge-row (c .before .before .pre .0) (c .edges .ensures) (c .before .before .pre .1) .inside)
 
--- src/image.rt:119:5
 read-edge-requires : tie.Need-read-edge-requires
 read-edge-requires c κs = ap length (c .row .ensures ∙ edge-row (c .before .before .before .pre .0) (c .before .edges .ensures) (c .before .before .before .pre .1) .read)
 
--- src/image.rt:114:1
 returns : tie.Need-returns
 returns c = c .read-edge .ensures ∙ ap readEdge (c .before .row .ensures ∙ edge-row (c .before .before .before .before .pre .0) (c .before .before .edges .ensures) (c .before .before .before .before .pre .1) .read)
 

@@ -1,10 +1,8 @@
+-- `store::image::get_entry` meets its contract. Assumes nothing.
 use denote.Ref.{now}
 use Rattle.store.specs.Layout.{parse}
 use Rattle.store.specs.Model.{tableAt}
-use Rattle.store.specs.Spots.{spot}
-use borrow.Rule.Slice.PartMut.{midOf}
 use Rattle.store.specs.Tables.{entries-fit, table-long, entry-in}
-use Rattle.store.specs.Image.{Limited}
 use Rattle.store.specs.Layout.{readEntry}
 use lib.ListN.{length}
 use mathlib.Core.Path.{_∙_, ap}
@@ -12,29 +10,19 @@ use native.Mathlib.Omega.{arith}
 use borrow.Author.Needs.{needs}
 use Rattle.store.proofs.image.get_entry.Statement.{statement}
 use Rattle.store.proofs.image.get_entry.Tie as tie
-use Rattle.store.proofs.image.get_entry.Reads as reads
-use Rattle.store.proofs.image.get_entry.Lts as lts
-use Rattle.store.proofs.image.table_words.Reads as table-words-reads
-use Rattle.store.proofs.records.read_entry.Reads as read-entry-reads
-use Rattle.store.proofs.rows.row.Reads as row-reads
 
--- src/image.rt:161:9
 table-words-requires : tie.Need-table-words-requires
 table-words-requires c κs = search needs
 
--- src/image.rt:162:49
 add-row : tie.Need-add-row
 add-row c = omega (arith, entries-fit (c .before .before .before .pre .0) (c .before .before .before .args .t))
 
--- src/image.rt:162:16
 row-requires : tie.Need-row-requires
 row-requires c κs = (omega arith, rw (c .before .table-words .ensures) (omega (arith, entries-fit (c .before .before .before .pre .0) (c .before .before .before .args .t), table-long (c .before .before .before .pre .0) (c .before .before .before .args .t))))
 
--- src/image.rt:162:5
 read-entry-requires : tie.Need-read-entry-requires
 read-entry-requires c κs = ap length (entry-in (parse (now (c .before .before .before .before .args .image)) .K) (tableAt (parse (now (c .before .before .before .before .args .image))) (c .before .before .before .before .args .t)) (c .before .before .before .before .args .position .0) (c .before .before .before .before .pre .1 .1) (c .before .before .table-words .ensures) (c .row .ensures))
 
--- src/image.rt:153:1
 returns : tie.Need-returns
 returns c = c .read-entry .ensures ∙ ap readEntry (entry-in (parse (now (c .before .before .before .before .before .args .image)) .K) (tableAt (parse (now (c .before .before .before .before .before .args .image))) (c .before .before .before .before .before .args .t)) (c .before .before .before .before .before .args .position .0) (c .before .before .before .before .before .pre .1 .1) (c .before .before .before .table-words .ensures) (c .before .row .ensures))
 

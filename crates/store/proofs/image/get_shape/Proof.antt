@@ -1,24 +1,17 @@
+-- `store::image::get_shape` meets its contract. Assumes nothing.
 use Rattle.store.specs.Image.{shape-row}
 use Rattle.store.specs.Layout.{readShape}
 use lib.ListN.{length}
 use mathlib.Core.Path.{_∙_, ap}
-use borrow.Author.Needs.{needs}
 use Rattle.store.proofs.image.get_shape.Statement.{statement}
 use Rattle.store.proofs.image.get_shape.Tie as tie
-use Rattle.store.proofs.image.get_shape.Reads as reads
-use Rattle.store.proofs.image.get_shape.Lts as lts
-use Rattle.store.proofs.rows.row.Reads as row-reads
-use Rattle.store.proofs.records.read_shape.Reads as read-shape-reads
 
--- src/image.rt:99:16
 row-requires : tie.Need-row-requires
 row-requires c κs = (c .before .pre .1 .low, shape-row (c .before .pre .0) (c .before .pre .1) .inside)
 
--- src/image.rt:99:5
 read-shape-requires : tie.Need-read-shape-requires
 read-shape-requires c κs = ap length (c .row .ensures ∙ shape-row (c .before .before .pre .0) (c .before .before .pre .1) .read)
 
--- src/image.rt:94:1
 returns : tie.Need-returns
 returns c = c .read-shape .ensures ∙ ap readShape (c .before .row .ensures ∙ shape-row (c .before .before .before .pre .0) (c .before .before .before .pre .1) .read)
 

@@ -1,26 +1,18 @@
+-- `store::image::lowest_free_edge` meets its contract. Assumes nothing.
 use Rattle.store.specs.FreePlaces.{edges-listed, lowest-listed}
 use borrow.Author.Needs.{needs}
 use Rattle.store.proofs.image.lowest_free_edge.Statement.{statement}
 use Rattle.store.proofs.image.lowest_free_edge.Tie as tie
-use Rattle.store.proofs.image.lowest_free_edge.Reads as reads
-use Rattle.store.proofs.image.lowest_free_edge.Lts as lts
-use Rattle.store.proofs.image.edge_count.Reads as edge-count-reads
-use Rattle.store.proofs.image.edges.Reads as edges-reads
-use Rattle.store.proofs.rows.lowest_unused.Reads as lowest-unused-reads
 
--- src/image.rt:287:26
 edges-requires : tie.Need-edges-requires
 edges-requires c κs = search needs
 
--- src/image.rt:287:52
 edge-count-requires : tie.Need-edge-count-requires
 edge-count-requires c κs = search needs
 
--- src/image.rt:287:5
 lowest-unused-requires : tie.Need-lowest-unused-requires
 lowest-unused-requires c κs = edges-listed (c .before .before .before .pre) (c .before .edges .ensures) (c .edge-count .ensures) .area
 
--- src/image.rt:283:1
 returns : tie.Need-returns
 returns c = lowest-listed (edges-listed (c .before .before .before .before .pre) (c .before .before .edges .ensures) (c .before .edge-count .ensures)) (c .lowest-unused .ensures)
 

@@ -1,31 +1,21 @@
+-- `store::image::lowest_free_table` meets its contract. Assumes nothing.
 use Rattle.store.specs.FreePlaces.{tables-listed, lowest-listed}
 use borrow.Author.Needs.{needs}
 use Rattle.store.proofs.image.lowest_free_table.Statement.{statement}
 use Rattle.store.proofs.image.lowest_free_table.Tie as tie
-use Rattle.store.proofs.image.lowest_free_table.Reads as reads
-use Rattle.store.proofs.image.lowest_free_table.Lts as lts
-use Rattle.store.proofs.image.table_count.Reads as table-count-reads
-use Rattle.store.proofs.image.table_width.Reads as table-width-reads
-use Rattle.store.proofs.image.tables.Reads as tables-reads
-use Rattle.store.proofs.rows.lowest_unused.Reads as lowest-unused-reads
 
--- src/image.rt:273:26
 tables-requires : tie.Need-tables-requires
 tables-requires c κs = search needs
 
--- src/image.rt:273:41
 table-width-requires : tie.Need-table-width-requires
 table-width-requires c κs = search needs
 
--- src/image.rt:273:61
 table-count-requires : tie.Need-table-count-requires
 table-count-requires c κs = search needs
 
--- src/image.rt:273:5
 lowest-unused-requires : tie.Need-lowest-unused-requires
 lowest-unused-requires c κs = tables-listed (c .before .before .before .before .pre) (c .before .before .tables .ensures) (c .before .table-width .ensures) (c .table-count .ensures) .area
 
--- src/image.rt:269:1
 returns : tie.Need-returns
 returns c = lowest-listed (tables-listed (c .before .before .before .before .before .pre) (c .before .before .before .tables .ensures) (c .before .before .table-width .ensures) (c .before .table-count .ensures)) (c .lowest-unused .ensures)
 

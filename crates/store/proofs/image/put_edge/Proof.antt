@@ -1,52 +1,38 @@
+-- `store::image::put_edge` meets its contract. Assumes nothing.
 use Rattle.store.specs.Image.{edge-row, row-put, becomes, put-edge-sizes}
 use native.Mathlib.Omega.{arith}
 use mathlib.Core.Path.{refl}
 use borrow.Author.Needs.{needs}
 use Rattle.store.proofs.image.put_edge.Statement.{statement}
 use Rattle.store.proofs.image.put_edge.Tie as tie
-use Rattle.store.proofs.image.put_edge.Reads as reads
-use Rattle.store.proofs.image.put_edge.Lts as lts
-use Rattle.store.proofs.image.edges.Reads as edges-reads
-use Rattle.store.proofs.rows.row_at.Reads as row-at-reads
-use Rattle.store.proofs.records.write_edge.Reads as write-edge-reads
 
--- src/image.rt:129:28
 edges-requires : tie.Need-edges-requires
 edges-requires c κs = search needs
 
--- src/image.rt:129:9
 row-at-requires : tie.Need-row-at-requires
 row-at-requires c κs = (c .before .before .before .pre .1 .low, edge-row (c .before .before .before .pre .0) (c .edges .ensures) (c .before .before .before .pre .1) .inside)
 
--- src/image.rt:130:15
 add-end : tie.Need-add-end
 add-end c = omega (arith, edge-row (c .before .before .before .before .pre .0) (c .before .edges .ensures) (c .before .before .before .before .pre .1) .inside)
 
--- src/image.rt:131:16
 mul-write-edge : tie.Need-mul-write-edge
 mul-write-edge c = omega (arith, edge-row (c .before .before .before .before .pre .0) (c .before .edges .ensures) (c .before .before .before .before .pre .1) .inside)
 
--- src/image.rt:131:16
 sub-write-edge : tie.Need-sub-write-edge
 sub-write-edge c = search needs
 
--- src/image.rt:131:16
 part-write-edge-start : tie.Need-part-write-edge-start
 part-write-edge-start c = search needs
 
--- src/image.rt:131:16
 part-write-edge-end : tie.Need-part-write-edge-end
 part-write-edge-end c = omega (arith, edge-row (c .before .before .before .before .pre .0) (c .before .edges .ensures) (c .before .before .before .before .pre .1) .inside)
 
--- src/image.rt:131:5
 write-edge-requires : tie.Need-write-edge-requires
 write-edge-requires c κs = search needs
 
--- src/image.rt:122:1
 same-length : tie.Need-same-length
 same-length c = search needs
 
--- src/image.rt:122:1
 returns : tie.Need-returns
 returns c = becomes (c .before .before .before .before .before .before .before .before .pre .0) (row-put (edge-row (c .before .before .before .before .before .before .before .before .pre .0) (c .before .before .before .before .before .edges .ensures) (c .before .before .before .before .before .before .before .before .pre .1)) _ (c .before .before .before .before .row-at .ensures) refl (c .before .before .write-edge .ensures) refl) (put-edge-sizes _ _ _)
 

@@ -1,17 +1,13 @@
+-- `store::image::shape_count` meets its contract. Assumes nothing.
 use lib.Dec.{lit<}
 use native.Mathlib.Omega.{arith}
 use Rattle.store.specs.Image.{header-there, header-word}
-use borrow.Author.Needs.{needs}
 use Rattle.store.proofs.image.shape_count.Statement.{statement}
 use Rattle.store.proofs.image.shape_count.Tie as tie
-use Rattle.store.proofs.image.shape_count.Reads as reads
-use Rattle.store.proofs.image.shape_count.Lts as lts
 
--- src/image.rt:49:5
 shared-slice-read-result : tie.Need-shared-slice-read-result
 shared-slice-read-result c = omega (arith, header-there (c .before .pre))
 
--- src/image.rt:45:1
 returns : tie.Need-returns
 returns c = header-word (c .before .pre) 0 (lit< tt)
 

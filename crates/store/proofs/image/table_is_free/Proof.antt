@@ -1,3 +1,4 @@
+-- `store::image::table_is_free` meets its contract. Assumes nothing.
 use denote.Ref.{now}
 use Rattle.store.specs.Layout.{parse}
 use Rattle.store.specs.Model.{tableAt}
@@ -5,15 +6,10 @@ use Rattle.store.specs.Tables.{count-free}
 use borrow.Author.Needs.{needs}
 use Rattle.store.proofs.image.table_is_free.Statement.{statement}
 use Rattle.store.proofs.image.table_is_free.Tie as tie
-use Rattle.store.proofs.image.table_is_free.Reads as reads
-use Rattle.store.proofs.image.table_is_free.Lts as lts
-use Rattle.store.proofs.image.count_word.Reads as count-word-reads
 
--- src/image.rt:141:5
 count-word-requires : tie.Need-count-word-requires
 count-word-requires c κs = search needs
 
--- src/image.rt:136:1
 returns : tie.Need-returns
 returns c = rw (c .count-word .ensures) (count-free (tableAt (parse (now (c .before .before .args .image))) (c .before .before .args .t)))
 

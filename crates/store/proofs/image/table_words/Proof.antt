@@ -1,27 +1,19 @@
+-- `store::image::table_words` meets its contract. Assumes nothing.
 use Rattle.store.specs.Image.{table-row}
 use mathlib.Core.Path.{_∙_}
 use borrow.Author.Needs.{needs}
 use Rattle.store.proofs.image.table_words.Statement.{statement}
 use Rattle.store.proofs.image.table_words.Tie as tie
-use Rattle.store.proofs.image.table_words.Reads as reads
-use Rattle.store.proofs.image.table_words.Lts as lts
-use Rattle.store.proofs.image.table_width.Reads as table-width-reads
-use Rattle.store.proofs.image.tables.Reads as tables-reads
-use Rattle.store.proofs.rows.row.Reads as row-reads
 
--- src/image.rt:123:16
 tables-requires : tie.Need-tables-requires
 tables-requires c κs = search needs
 
--- src/image.rt:123:31
 table-width-requires : tie.Need-table-width-requires
 table-width-requires c κs = search needs
 
--- src/image.rt:123:5
 row-requires : tie.Need-row-requires
 row-requires c κs = (c .before .before .before .pre .1 .low, table-row (c .before .before .before .pre .0) (c .before .tables .ensures) (c .table-width .ensures) (c .before .before .before .pre .1) .inside)
 
--- src/image.rt:116:1
 returns : tie.Need-returns
 returns c = c .row .ensures ∙ table-row (c .before .before .before .before .pre .0) (c .before .before .tables .ensures) (c .before .table-width .ensures) (c .before .before .before .before .pre .1) .read
 

@@ -1,3 +1,4 @@
+-- `store::image::tables` meets its contract. Assumes nothing.
 use mathlib.Core.Path.{_∙_}
 use lib.Dec.{lit<}
 use native.Mathlib.Omega.{arith}
@@ -5,19 +6,13 @@ use Rattle.store.specs.Image.{header-there, header-word}
 use borrow.Author.Needs.{needs}
 use Rattle.store.proofs.image.tables.Statement.{statement}
 use Rattle.store.proofs.image.tables.Tie as tie
-use Rattle.store.proofs.image.tables.Reads as reads
-use Rattle.store.proofs.image.tables.Lts as lts
-use Rattle.store.proofs.rows.wide.Reads as wide-reads
 
--- src/image.rt:77:10
 shared-slice-read-wide : tie.Need-shared-slice-read-wide
 shared-slice-read-wide c = omega (arith, header-there (c .before .before .pre))
 
--- src/image.rt:77:5
 wide-requires : tie.Need-wide-requires
 wide-requires c κs = search needs
 
--- src/image.rt:73:1
 returns : tie.Need-returns
 returns c = c .wide .ensures ∙ header-word (c .before .before .before .pre) 5 (lit< tt)
 

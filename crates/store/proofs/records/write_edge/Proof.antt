@@ -1,3 +1,4 @@
+-- `store::records::write_edge` meets its contract. Assumes nothing.
 use Rattle.store.specs.Layout.{edgeWords}
 use Rattle.store.specs.Spots.{all-stored}
 use denote.Ref.{now}
@@ -6,34 +7,25 @@ use native.Mathlib.Omega.{arith}
 use borrow.Author.Needs.{needs}
 use Rattle.store.proofs.records.write_edge.Statement.{statement}
 use Rattle.store.proofs.records.write_edge.Tie as tie
-use Rattle.store.proofs.records.write_edge.Reads as reads
-use Rattle.store.proofs.records.write_edge.Lts as lts
 
--- src/records.rt:74:5
 slice-write-words : tie.Need-slice-write-words
 slice-write-words c = search needs
 
--- src/records.rt:75:5
 slice-write-words-2 : tie.Need-slice-write-words-2
 slice-write-words-2 c = search needs
 
--- src/records.rt:76:5
 slice-write-words-3 : tie.Need-slice-write-words-3
 slice-write-words-3 c = search needs
 
--- src/records.rt:77:5
 slice-write-words-4 : tie.Need-slice-write-words-4
 slice-write-words-4 c = search needs
 
--- src/records.rt:78:5
 slice-write-words-5 : tie.Need-slice-write-words-5
 slice-write-words-5 c = simp length-set (omega arith)
 
--- src/records.rt:70:1
 same-length : tie.Need-same-length
 same-length c = search needs
 
--- src/records.rt:70:1
 returns : tie.Need-returns
 returns c = all-stored (edgeWords (c .args .e)) (now (c .args .words)) (c .pre)
 

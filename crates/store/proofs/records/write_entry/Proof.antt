@@ -1,29 +1,23 @@
+-- `store::records::write_entry` meets its contract. Assumes nothing.
 use Rattle.store.specs.Layout.{entryWords}
 use Rattle.store.specs.Spots.{all-stored}
 use denote.Ref.{now}
 use borrow.Author.Needs.{needs}
 use Rattle.store.proofs.records.write_entry.Statement.{statement}
 use Rattle.store.proofs.records.write_entry.Tie as tie
-use Rattle.store.proofs.records.write_entry.Reads as reads
-use Rattle.store.proofs.records.write_entry.Lts as lts
 
--- src/records.rt:52:5
 slice-write-words : tie.Need-slice-write-words
 slice-write-words c = search needs
 
--- src/records.rt:53:5
 slice-write-words-2 : tie.Need-slice-write-words-2
 slice-write-words-2 c = search needs
 
--- src/records.rt:54:5
 slice-write-words-3 : tie.Need-slice-write-words-3
 slice-write-words-3 c = search needs
 
--- src/records.rt:48:1
 same-length : tie.Need-same-length
 same-length c = search needs
 
--- src/records.rt:48:1
 returns : tie.Need-returns
 returns c = all-stored (entryWords (c .args .e)) (now (c .args .words)) (c .pre)
 

@@ -1,4 +1,4 @@
--- `store::header::clear` meets its contract. The first i words are zero, and there are as many as there were.
+-- `store::rows::clear` meets its contract. The first i words are zero, and there are as many as there were.
 -- Assumes nothing.
 use mathlib.Core.Path.{_≡_, refl, sym, _∙_}
 use Prim.Native.Nat.{_≤_, _-_}
@@ -7,7 +7,7 @@ use borrow.Author.Needs.{needs}
 use denote.Ref.{now}
 use lib.ListN.{length, take, replicate, length-set}
 use lib.Seq.{take-all}
-use Rattle.store.specs.HeaderLaws.{clear-one}
+use Rattle.store.specs.Spots.{clear-one}
 use Rattle.store.proofs.rows.clear.Statement.{statement}
 use Rattle.store.proofs.rows.clear.Tie as tie
 

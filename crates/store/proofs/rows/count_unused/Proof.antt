@@ -1,20 +1,17 @@
+-- `store::rows::count_unused` meets its contract. Assumes nothing.
 use native.Mathlib.Omega.{arith}
 use Rattle.store.specs.FreePlaces.{Counting, count, count-next, counted-all, at-most-one, unused}
 use Rattle.store.specs.Rows.{length-rows}
 use Rattle.store.specs.Layout.{rows}
 use Rattle.slot.specs.If.{if_then_else_}
 use lib.ListN.{drop}
-use Prim.Native.Nat.{ℕ, _-_}
+use Prim.Native.Nat.{_-_}
 use mathlib.Core.List.{[]}
 use mathlib.Core.Bool.{Bool}
 use mathlib.Core.Path.{_∙_, ap}
 use borrow.Author.Needs.{needs}
 use Rattle.store.proofs.rows.count_unused.Statement.{statement}
 use Rattle.store.proofs.rows.count_unused.Tie as tie
-use Rattle.store.proofs.rows.count_unused.Reads as reads
-use Rattle.store.proofs.rows.count_unused.Lts as lts
-use Rattle.store.proofs.rows.is_unused.Reads as is-unused-reads
-use Rattle.store.proofs.rows.one_if.Reads as one-if-reads
 
 abbrev Inv-loop : tie.InvT-loop
 Inv-loop image area width count free₀ done₀ free done = Counting unused (rows width count (drop area image)) done free
@@ -22,35 +19,27 @@ Inv-loop image area width count free₀ done₀ free done = Counting unused (row
 abbrev μ-loop : tie.MeasureT-loop
 μ-loop image area width count free₀ done₀ free done = count - done
 
--- src/rows.rt:76:5
 loop-holds : tie.Need-loop-holds Inv-loop μ-loop
 loop-holds c = count unused _
 
--- src/rows.rt:77:24
 is-unused-requires : tie.Need-is-unused-requires Inv-loop μ-loop
 is-unused-requires c κs = search needs
 
--- src/rows.rt:77:17
 one-if-requires : tie.Need-one-if-requires Inv-loop μ-loop
 one-if-requires c κs = search needs
 
--- src/rows.rt:77:9
 add-free : tie.Need-add-free Inv-loop μ-loop
 add-free c = omega (arith, at-most-one (c .before .is-unused .result) (c .one-if .ensures), c .before .before .before .loop .inv .few, c .before .before .before .before .before .pre .few)
 
--- src/rows.rt:78:9
 add-done : tie.Need-add-done Inv-loop μ-loop
 add-done c = search needs
 
--- src/rows.rt:76:5
 loop-less : tie.Need-loop-less Inv-loop μ-loop
 loop-less c = search needs
 
--- src/rows.rt:76:5
 loop-again : tie.Need-loop-again Inv-loop μ-loop
 loop-again c = count-next unused (c .before .before .before .loop .inv) [] (rw length-rows (c .before .before .loop-test .taken)) (c .one-if .ensures ∙ ap (λ (b : Bool). if b then 1 else 0) (c .before .is-unused .ensures))
 
--- src/rows.rt:70:1
 returns : tie.Need-returns Inv-loop μ-loop
 returns c = counted-all unused (c .before .loop .inv) (rw length-rows (c .loop-test .left))
 

@@ -1,25 +1,19 @@
+-- `store::rows::is_unused` meets its contract. Assumes nothing.
 use Rattle.store.specs.FreePlaces.{area-spot, row-long, row-unused}
 use native.Mathlib.Omega.{arith}
 use borrow.Author.Needs.{needs}
 use Rattle.store.proofs.rows.is_unused.Statement.{statement}
 use Rattle.store.proofs.rows.is_unused.Tie as tie
-use Rattle.store.proofs.rows.is_unused.Reads as reads
-use Rattle.store.proofs.rows.is_unused.Lts as lts
-use Rattle.store.proofs.rows.row.Reads as row-reads
 
--- src/rows.rt:42:42
 add-row : tie.Need-add-row
 add-row c = search needs
 
--- src/rows.rt:42:9
 row-requires : tie.Need-row-requires
 row-requires c κs = (omega arith, area-spot (c .before .pre .0) (c .before .args .before) (c .before .pre .1))
 
--- src/rows.rt:43:5
 shared-slice-read-result : tie.Need-shared-slice-read-result
 shared-slice-read-result c = omega (arith, row-long (c .before .before .before .pre .0) (c .before .before .before .args .before) (c .before .before .before .pre .1) (c .before .row .ensures), c .before .before .before .pre .0 .wide)
 
--- src/rows.rt:37:1
 returns : tie.Need-returns
 returns c = row-unused _ _ _ _ _ (c .before .before .before .pre .1) (c .before .row .ensures)
 

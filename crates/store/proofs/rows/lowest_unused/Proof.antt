@@ -1,3 +1,4 @@
+-- `store::rows::lowest_unused` meets its contract. Assumes nothing.
 use Rattle.store.specs.FreePlaces.{Seeking, seek, sought, seek-on, sought-nowhere, unused}
 use Rattle.store.specs.Rows.{length-rows}
 use Rattle.store.specs.Layout.{rows}
@@ -8,9 +9,6 @@ use mathlib.Core.Path.{_∙_, sym}
 use borrow.Author.Needs.{needs}
 use Rattle.store.proofs.rows.lowest_unused.Statement.{statement}
 use Rattle.store.proofs.rows.lowest_unused.Tie as tie
-use Rattle.store.proofs.rows.lowest_unused.Reads as reads
-use Rattle.store.proofs.rows.lowest_unused.Lts as lts
-use Rattle.store.proofs.rows.is_unused.Reads as is-unused-reads
 
 abbrev Inv-loop : tie.InvT-loop
 Inv-loop image area width count done₀ done = Seeking unused (rows width count (drop area image)) done
@@ -18,35 +16,27 @@ Inv-loop image area width count done₀ done = Seeking unused (rows width count 
 abbrev μ-loop : tie.MeasureT-loop
 μ-loop image area width count done₀ done = count - done
 
--- src/rows.rt:52:5
 loop-holds : tie.Need-loop-holds Inv-loop μ-loop
 loop-holds c = seek unused _
 
--- src/rows.rt:53:12
 is-unused-requires : tie.Need-is-unused-requires Inv-loop μ-loop
 is-unused-requires c κs = search needs
 
--- src/rows.rt:54:20
 add-result : tie.Need-add-result Inv-loop μ-loop
 add-result c = search needs
 
--- src/rows.rt:54:13
 returns : tie.Need-returns Inv-loop μ-loop
 returns c = sought unused (c .before .before .before .loop .inv) [] (rw length-rows (c .before .before .loop-test .taken)) (sym (c .before .is-unused .ensures) ∙ c .if1 .taken)
 
--- src/rows.rt:56:9
 add-done : tie.Need-add-done Inv-loop μ-loop
 add-done c = search needs
 
--- src/rows.rt:52:5
 loop-less : tie.Need-loop-less Inv-loop μ-loop
 loop-less c = search needs
 
--- src/rows.rt:52:5
 loop-again : tie.Need-loop-again Inv-loop μ-loop
 loop-again c = seek-on unused (c .before .before .before .loop .inv) [] (rw length-rows (c .before .before .loop-test .taken)) (sym (c .before .is-unused .ensures) ∙ c .if1 .left)
 
--- src/rows.rt:47:1
 returns-2 : tie.Need-returns-2 Inv-loop μ-loop
 returns-2 c = sought-nowhere unused (c .before .loop .inv) (rw length-rows (c .loop-test .left))
 

@@ -1,13 +1,13 @@
--- `store::header::write_header` meets its contract. Assumes nothing.
+-- `header::write_header` meets its contract. Assumes nothing.
 use native.Mathlib.Omega.{arith}
 use borrow.Author.Needs.{needs}
 use denote.Ref.{now}
 use lib.ListN.{length-set}
 use lib.Seq.{sets-eq}
 use Rattle.store.specs.Layout.{header}
-use Rattle.store.specs.HeaderLaws.{in-range}
-use Rattle.store.proofs.header.write_header.Statement.{statement}
-use Rattle.store.proofs.header.write_header.Tie as tie
+use Rattle.header.specs.HeaderLaws.{in-range}
+use Rattle.header.proofs.write_header.Statement.{statement}
+use Rattle.header.proofs.write_header.Tie as tie
 
 tables-offset-requires : tie.Need-tables-offset-requires
 tables-offset-requires c κs = search needs

@@ -1,9 +1,9 @@
--- `store::header::edges_offset` meets its contract. Assumes nothing.
+-- `header::edges_offset` meets its contract. Assumes nothing.
 use native.Mathlib.Omega.{arith}
 use borrow.Author.Needs.{needs}
-use Rattle.store.specs.HeaderLaws.{table-words}
-use Rattle.store.proofs.header.edges_offset.Statement.{statement}
-use Rattle.store.proofs.header.edges_offset.Tie as tie
+use Rattle.header.specs.HeaderLaws.{table-words}
+use Rattle.header.proofs.edges_offset.Statement.{statement}
+use Rattle.header.proofs.edges_offset.Tie as tie
 
 tables-offset-requires : tie.Need-tables-offset-requires
 tables-offset-requires c κs = search needs

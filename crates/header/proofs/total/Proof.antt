@@ -1,9 +1,9 @@
--- `store::header::total` meets its contract. Assumes nothing.
+-- `header::total` meets its contract. Assumes nothing.
 use native.Mathlib.Omega.{arith}
 use borrow.Author.Needs.{needs}
-use Rattle.store.specs.HeaderLaws.{table-words}
-use Rattle.store.proofs.header.total.Statement.{statement}
-use Rattle.store.proofs.header.total.Tie as tie
+use Rattle.header.specs.HeaderLaws.{table-words}
+use Rattle.header.proofs.total.Statement.{statement}
+use Rattle.header.proofs.total.Tie as tie
 
 edges-offset-requires : tie.Need-edges-offset-requires
 edges-offset-requires c κs = search needs

@@ -1,14 +1,14 @@
--- `store::header::format` meets its contract. Assumes nothing.
+-- `header::format` meets its contract. Assumes nothing.
 use mathlib.Core.Path.{refl, sym, _∙_}
 use native.Mathlib.Omega.{arith}
 use borrow.Author.Tests.{not-true, not-false, eq-eqb, ne-eqb}
 use borrow.Author.Needs.{needs}
 use denote.Ref.{now}
 use lib.ListN.{length}
 use Rattle.store.specs.Layout.{total}
-use Rattle.store.specs.HeaderLaws.{in-range, header-zeros}
-use Rattle.store.proofs.header.format.Statement.{statement}
-use Rattle.store.proofs.header.format.Tie as tie
+use Rattle.header.specs.HeaderLaws.{in-range, header-zeros}
+use Rattle.header.proofs.format.Statement.{statement}
+use Rattle.header.proofs.format.Tie as tie
 
 good-limits-requires : tie.Need-good-limits-requires
 good-limits-requires c κs = search needs

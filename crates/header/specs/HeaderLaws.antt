@@ -1,21 +1,19 @@
 -- The laws of the header: what limits in range say, its test word by word, and formatting part by part.
 -- Assumes nothing.
-use mathlib.Core.Path.{_≡_, refl, ap, _∙_}
+use mathlib.Core.Path.{_≡_, refl, _∙_}
 use mathlib.Core.Bool.{true, false, _&&_, and-assoc, and-true, and-false}
 use mathlib.Core.List.{List, _++_}
 use Prim.Native.Nat.{ℕ, _+_, _-_, _*_, _≤_, _<_}
 use native.Mathlib.Nat.{mul-le-mul-right}
-use native.Mathlib.Numerals.{add-one}
 use native.Mathlib.Omega.{arith}
 use borrow.Author.Tests.{leb-true, eq-eqb, ne-eqb}
 use lib.Dec.{eqb, leb}
-use lib.ListN.{length, getD, take, drop, set, replicate, replicate-append-replicate}
-use lib.Seq.{take-suc-set}
+use lib.ListN.{length, getD, drop, replicate, replicate-append-replicate}
 use Rattle.store.specs.ListLaws.{and-both, all-passed}
 use Rattle.store.specs.Layout.{header, limitsIn, total, tablesOffset, edgesOffset, within}
 use Rattle.store.specs.Layout.{limitSentences, goodLimits, goodHeader, formatted}
 use Rattle.store.specs.Records.{read-one-by-one}
 use Rattle.store.specs.declared.Limits.{Limits}
 
 -- ## Limits
 
@@ -60,13 +58,6 @@ header-words ws h = rw (← (read-one-by-one ws 0 8 h)) (simp (same, and-assoc, 
     same n = eq-eqb n n refl
 
 -- ## Formatting
-
--- One word more is zero.
-pub clear-one : (ws : List ℕ) (i : ℕ) → i < length ws → take i ws ≡ replicate i 0
-    → take (i + 1) (set ws i 0) ≡ replicate (i + 1) 0
-clear-one ws i h e =
-    rw (add-one, take-suc-set ws i 0 h, e)
-    (replicate-append-replicate i 1 0 ∙ ap (λ (n : ℕ). replicate n 0) (add-one i))
 
 -- Words that are zero, as many as the limits say, and then have the header at their front, are formatted.
 pub header-zeros : (l : Limits) (n : ℕ) {zeros ws : List ℕ} → n ≡ total l → zeros ≡ replicate n 0

@@ -1,14 +1,14 @@
 // The header of the lent image: its test, and formatting.
-use crate::Limits;
-use crate::rows::clear;
+use store::Limits;
+use store::rows::clear;
 ghost use mathlib.Core.Path.{_≡_};
 ghost use mathlib.Core.Bool.{Bool, _&&_};
 ghost use mathlib.Core.List.{_++_};
 ghost use Prim.Native.Nat.{_≤_};
 ghost use lib.ListN.{length, drop};
 ghost use Rattle.slot.specs.If.{if_then_else_};
 ghost use Rattle.store.specs.Layout.{tablesOffset, edgesOffset, total, header, limitsIn};
 ghost use Rattle.store.specs.Layout.{within, goodLimits, goodHeader, formattable, formatted};
 
 fn is_within(low: u32, high: u32, n: u32) -> bool
     ensures { λ r. ⌜ r ≡ within low high n ⌝ }

@@ -1,11 +1,11 @@
--- `store::header::good_limits` meets its contract. Assumes nothing.
+-- `header::good_limits` meets its contract. Assumes nothing.
 use mathlib.Core.Path.{sym, _∙_}
 use mathlib.Core.Bool.{_&&_, and-assoc, and-true}
 use borrow.Author.Needs.{needs}
-use Rattle.store.specs.HeaderLaws.{within-high}
+use Rattle.header.specs.HeaderLaws.{within-high}
 use Rattle.store.specs.ListLaws.{and-both}
-use Rattle.store.proofs.header.good_limits.Statement.{statement}
-use Rattle.store.proofs.header.good_limits.Tie as tie
+use Rattle.header.proofs.good_limits.Statement.{statement}
+use Rattle.header.proofs.good_limits.Tie as tie
 
 is-within-requires : tie.Need-is-within-requires
 is-within-requires c κs = search needs

@@ -1,13 +1,13 @@
--- `store::header::good_header` meets its contract. Assumes nothing.
+-- `header::good_header` meets its contract. Assumes nothing.
 use mathlib.Core.Path.{sym, ap, _∙_}
 use mathlib.Core.Bool.{and-false}
 use native.Mathlib.Omega.{arith}
 use borrow.Author.Tests.{not-true, not-false}
 use borrow.Author.Needs.{needs}
 use Rattle.store.specs.Layout.{goodLimits, tablesOffset, edgesOffset, total}
-use Rattle.store.specs.HeaderLaws.{in-range, short-header, header-words}
-use Rattle.store.proofs.header.good_header.Statement.{statement}
-use Rattle.store.proofs.header.good_header.Tie as tie
+use Rattle.header.specs.HeaderLaws.{in-range, short-header, header-words}
+use Rattle.header.proofs.good_header.Statement.{statement}
+use Rattle.header.proofs.good_header.Tie as tie
 
 returns : tie.Need-returns
 returns c = rw (short-header _ (c .if1 .taken), and-false)
