@@ -11,13 +11,27 @@ free-table-requires : tie.Need-free-table-requires
 free-table-requires c κs = search needs
 
 start-table-requires : tie.Need-start-table-requires
-start-table-requires c κs = (c .before .before .before .free-table .ensures .formed, (rw (c .before .before .before .free-table .ensures .sizes .tables) (c .before .before .before .before .before .before .pre .1), ap (λ (m : Model). tableAt m (c .before .before .before .before .before .before .args .t)) (c .before .before .before .free-table .ensures .parsed) ∙ table-put _ _ free (c .before .before .before .before .before .before .pre .1)))
+start-table-requires c κs =
+    let free-table = c .before .before .before .free-table in
+    let pre = c .before .before .before .before .before .before .pre in
+    let args = c .before .before .before .before .before .before .args in (
+      free-table .ensures .formed,
+      (
+        rw (free-table .ensures .sizes .tables) (pre .1),
+        ap (λ (m : Model). tableAt m (args .t))
+            (free-table .ensures .parsed) ∙ table-put _ _ free (pre .1),
+      ),
+    )
 
 same-length : tie.Need-same-length
 same-length c = search needs
 
 returns : tie.Need-returns
-returns c = put-then _ (c .before .before .before .before .before .before .before .before .before .args .t) free (used []) (c .before .before .before .before .before .before .free-table .ensures) (c .before .before .start-table .ensures)
+returns c =
+    let args = c .before .before .before .before .before .before .before .before .before .args in
+    let free-table = c .before .before .before .before .before .before .free-table in
+    let start-table = c .before .before .start-table in
+    put-then _ (args .t) free (used []) (free-table .ensures) (start-table .ensures)
 
 pub empty-table-spec : {M : Type 1} → statement M
 empty-table-spec =

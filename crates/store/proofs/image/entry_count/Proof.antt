@@ -15,10 +15,14 @@ sub-result : tie.Need-sub-result
 sub-result c = search needs
 
 returns : tie.Need-returns
-returns c = omega (arith, count-less-one (tableAt (parse (now (c .before .before .before .args .image))) (c .before .before .before .args .t)))
+returns c =
+    let args = c .before .before .before .args in
+    omega (arith, count-less-one (tableAt (parse (now (args .image))) (args .t)))
 
 returns-2 : tie.Need-returns-2
-returns-2 c = omega (arith, count-less-one (tableAt (parse (now (c .before .before .before .args .image))) (c .before .before .before .args .t)))
+returns-2 c =
+    let args = c .before .before .before .args in
+    omega (arith, count-less-one (tableAt (parse (now (args .image))) (args .t)))
 
 pub entry-count-spec : {M : Type 1} → statement M
 entry-count-spec = tie.close (tie.spec count-word-requires sub-result returns returns-2)

@@ -11,10 +11,19 @@ edge-count-requires : tie.Need-edge-count-requires
 edge-count-requires c κs = search needs
 
 count-unused-requires : tie.Need-count-unused-requires
-count-unused-requires c κs = edges-listed (c .before .before .before .pre) (c .before .edges .ensures) (c .edge-count .ensures) .area
+count-unused-requires c κs =
+    let pre = c .before .before .before .pre in
+    let edges = c .before .edges in
+    let edge-count = c .edge-count in
+    edges-listed pre (edges .ensures) (edge-count .ensures) .area
 
 returns : tie.Need-returns
-returns c = count-listed (edges-listed (c .before .before .before .before .pre) (c .before .before .edges .ensures) (c .before .edge-count .ensures)) (c .count-unused .ensures)
+returns c =
+    let pre = c .before .before .before .before .pre in
+    let edges = c .before .before .edges in
+    let edge-count = c .before .edge-count in
+    let count-unused = c .count-unused in
+    count-listed (edges-listed pre (edges .ensures) (edge-count .ensures)) (count-unused .ensures)
 
 pub free-edges-spec : {M : Type 1} → statement M
 free-edges-spec =

@@ -11,7 +11,11 @@ count-unused-requires : tie.Need-count-unused-requires
 count-unused-requires c κs = shapes-listed (c .before .before .pre) (c .shape-count .ensures) .area
 
 returns : tie.Need-returns
-returns c = count-listed (shapes-listed (c .before .before .before .pre) (c .before .shape-count .ensures)) (c .count-unused .ensures)
+returns c =
+    let pre = c .before .before .before .pre in
+    let shape-count = c .before .shape-count in
+    let count-unused = c .count-unused in
+    count-listed (shapes-listed pre (shape-count .ensures)) (count-unused .ensures)
 
 pub free-shapes-spec : {M : Type 1} → statement M
 free-shapes-spec = tie.close (tie.spec shape-count-requires count-unused-requires returns)

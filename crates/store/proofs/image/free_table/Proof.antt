@@ -14,13 +14,25 @@ tables-requires : tie.Need-tables-requires
 tables-requires c κs = search needs
 
 row-at-requires : tie.Need-row-at-requires
-row-at-requires c κs = (c .before .before .before .before .before .pre .1 .low, table-row (c .before .before .before .before .before .pre .0) (c .tables .ensures) (c .before .before .table-width .ensures) (c .before .before .before .before .before .pre .1) .inside)
+row-at-requires c κs =
+    let pre = c .before .before .before .before .before .pre in
+    let tables = c .tables in
+    let table-width = c .before .before .table-width in
+    (pre .1 .low, table-row (pre .0) (tables .ensures) (table-width .ensures) (pre .1) .inside)
 
 add-end : tie.Need-add-end
-add-end c = omega (arith, table-row (c .before .before .before .before .before .before .pre .0) (c .before .tables .ensures) (c .before .before .before .table-width .ensures) (c .before .before .before .before .before .before .pre .1) .inside)
+add-end c =
+    let pre = c .before .before .before .before .before .before .pre in
+    let tables = c .before .tables in
+    let table-width = c .before .before .before .table-width in
+    omega (arith, table-row (pre .0) (tables .ensures) (table-width .ensures) (pre .1) .inside)
 
 mul-clear : tie.Need-mul-clear
-mul-clear c = omega (arith, table-row (c .before .before .before .before .before .before .pre .0) (c .before .tables .ensures) (c .before .before .before .table-width .ensures) (c .before .before .before .before .before .before .pre .1) .inside)
+mul-clear c =
+    let pre = c .before .before .before .before .before .before .pre in
+    let tables = c .before .tables in
+    let table-width = c .before .before .before .table-width in
+    omega (arith, table-row (pre .0) (tables .ensures) (table-width .ensures) (pre .1) .inside)
 
 sub-clear : tie.Need-sub-clear
 sub-clear c = search needs
@@ -29,7 +41,11 @@ part-clear-start : tie.Need-part-clear-start
 part-clear-start c = search needs
 
 part-clear-end : tie.Need-part-clear-end
-part-clear-end c = omega (arith, table-row (c .before .before .before .before .before .before .pre .0) (c .before .tables .ensures) (c .before .before .before .table-width .ensures) (c .before .before .before .before .before .before .pre .1) .inside)
+part-clear-end c =
+    let pre = c .before .before .before .before .before .before .pre in
+    let tables = c .before .tables in
+    let table-width = c .before .before .before .table-width in
+    omega (arith, table-row (pre .0) (tables .ensures) (table-width .ensures) (pre .1) .inside)
 
 clear-requires : tie.Need-clear-requires
 clear-requires c κs = search needs
@@ -38,7 +54,14 @@ same-length : tie.Need-same-length
 same-length c = search needs
 
 returns : tie.Need-returns
-returns c = cleared-becomes (c .before .before .before .before .before .before .before .before .before .before .pre .0) (c .before .before .before .before .before .before .before .before .before .before .pre .1) (c .before .before .before .before .before .tables .ensures) (c .before .before .before .before .before .before .before .table-width .ensures) (c .before .before .before .before .row-at .ensures) refl (c .before .before .clear .ensures)
+returns c =
+    let pre = c .before .before .before .before .before .before .before .before .before .before .pre in
+    let tables = c .before .before .before .before .before .tables in
+    let table-width = c .before .before .before .before .before .before .before .table-width in
+    let row-at = c .before .before .before .before .row-at in
+    let clear = c .before .before .clear in
+    cleared-becomes (pre .0) (pre .1) (tables .ensures) (table-width .ensures) (row-at .ensures) refl
+    (clear .ensures)
 
 pub free-table-spec : {M : Type 1} → statement M
 free-table-spec =

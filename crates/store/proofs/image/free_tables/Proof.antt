@@ -14,10 +14,22 @@ table-count-requires : tie.Need-table-count-requires
 table-count-requires c κs = search needs
 
 count-unused-requires : tie.Need-count-unused-requires
-count-unused-requires c κs = tables-listed (c .before .before .before .before .pre) (c .before .before .tables .ensures) (c .before .table-width .ensures) (c .table-count .ensures) .area
+count-unused-requires c κs =
+    let pre = c .before .before .before .before .pre in
+    let tables = c .before .before .tables in
+    let table-width = c .before .table-width in
+    let table-count = c .table-count in
+    tables-listed pre (tables .ensures) (table-width .ensures) (table-count .ensures) .area
 
 returns : tie.Need-returns
-returns c = count-listed (tables-listed (c .before .before .before .before .before .pre) (c .before .before .before .tables .ensures) (c .before .before .table-width .ensures) (c .before .table-count .ensures)) (c .count-unused .ensures)
+returns c =
+    let pre = c .before .before .before .before .before .pre in
+    let tables = c .before .before .before .tables in
+    let table-width = c .before .before .table-width in
+    let table-count = c .before .table-count in
+    let count-unused = c .count-unused in
+    count-listed (tables-listed pre (tables .ensures) (table-width .ensures) (table-count .ensures))
+    (count-unused .ensures)
 
 pub free-tables-spec : {M : Type 1} → statement M
 free-tables-spec =

@@ -11,13 +11,25 @@ edges-requires : tie.Need-edges-requires
 edges-requires c κs = search needs
 
 row-requires : tie.Need-row-requires
-row-requires c κs = (c .before .before .pre .1 .low, edge-row (c .before .before .pre .0) (c .edges .ensures) (c .before .before .pre .1) .inside)
+row-requires c κs =
+    let pre = c .before .before .pre in
+    let edges = c .edges in
+    (pre .1 .low, edge-row (pre .0) (edges .ensures) (pre .1) .inside)
 
 read-edge-requires : tie.Need-read-edge-requires
-read-edge-requires c κs = ap length (c .row .ensures ∙ edge-row (c .before .before .before .pre .0) (c .before .edges .ensures) (c .before .before .before .pre .1) .read)
+read-edge-requires c κs =
+    let row = c .row in
+    let pre = c .before .before .before .pre in
+    let edges = c .before .edges in
+    ap length (row .ensures ∙ edge-row (pre .0) (edges .ensures) (pre .1) .read)
 
 returns : tie.Need-returns
-returns c = c .read-edge .ensures ∙ ap readEdge (c .before .row .ensures ∙ edge-row (c .before .before .before .before .pre .0) (c .before .before .edges .ensures) (c .before .before .before .before .pre .1) .read)
+returns c =
+    let read-edge = c .read-edge in
+    let row = c .before .row in
+    let pre = c .before .before .before .before .pre in
+    let edges = c .before .before .edges in
+    read-edge .ensures ∙ ap readEdge (row .ensures ∙ edge-row (pre .0) (edges .ensures) (pre .1) .read)
 
 pub get-edge-spec : {M : Type 1} → statement M
 get-edge-spec = tie.close (tie.spec edges-requires row-requires read-edge-requires returns)

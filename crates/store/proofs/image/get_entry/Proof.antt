@@ -15,16 +15,41 @@ table-words-requires : tie.Need-table-words-requires
 table-words-requires c κs = search needs
 
 add-row : tie.Need-add-row
-add-row c = omega (arith, entries-fit (c .before .before .before .pre .0) (c .before .before .before .args .t))
+add-row c =
+    let pre = c .before .before .before .pre in
+    let args = c .before .before .before .args in
+    omega (arith, entries-fit (pre .0) (args .t))
 
 row-requires : tie.Need-row-requires
-row-requires c κs = (omega arith, rw (c .before .table-words .ensures) (omega (arith, entries-fit (c .before .before .before .pre .0) (c .before .before .before .args .t), table-long (c .before .before .before .pre .0) (c .before .before .before .args .t))))
+row-requires c κs =
+    let table-words = c .before .table-words in
+    let pre = c .before .before .before .pre in
+    let args = c .before .before .before .args in (
+      omega arith,
+      rw (table-words .ensures)
+          (omega (arith, entries-fit (pre .0) (args .t), table-long (pre .0) (args .t))),
+    )
 
 read-entry-requires : tie.Need-read-entry-requires
-read-entry-requires c κs = ap length (entry-in (parse (now (c .before .before .before .before .args .image)) .K) (tableAt (parse (now (c .before .before .before .before .args .image))) (c .before .before .before .before .args .t)) (c .before .before .before .before .args .position .0) (c .before .before .before .before .pre .1 .1) (c .before .before .table-words .ensures) (c .row .ensures))
+read-entry-requires c κs =
+    let args = c .before .before .before .before .args in
+    let pre = c .before .before .before .before .pre in
+    let table-words = c .before .before .table-words in
+    let row = c .row in
+    ap length
+    (entry-in (parse (now (args .image)) .K) (tableAt (parse (now (args .image))) (args .t))
+    (args .position .0) (pre .1 .1) (table-words .ensures) (row .ensures))
 
 returns : tie.Need-returns
-returns c = c .read-entry .ensures ∙ ap readEntry (entry-in (parse (now (c .before .before .before .before .before .args .image)) .K) (tableAt (parse (now (c .before .before .before .before .before .args .image))) (c .before .before .before .before .before .args .t)) (c .before .before .before .before .before .args .position .0) (c .before .before .before .before .before .pre .1 .1) (c .before .before .before .table-words .ensures) (c .before .row .ensures))
+returns c =
+    let read-entry = c .read-entry in
+    let args = c .before .before .before .before .before .args in
+    let pre = c .before .before .before .before .before .pre in
+    let table-words = c .before .before .before .table-words in
+    let row = c .before .row in
+    read-entry .ensures ∙ ap readEntry
+    (entry-in (parse (now (args .image)) .K) (tableAt (parse (now (args .image))) (args .t))
+    (args .position .0) (pre .1 .1) (table-words .ensures) (row .ensures))
 
 pub get-entry-spec : {M : Type 1} → statement M
 get-entry-spec =

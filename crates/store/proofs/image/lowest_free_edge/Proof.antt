@@ -11,10 +11,19 @@ edge-count-requires : tie.Need-edge-count-requires
 edge-count-requires c κs = search needs
 
 lowest-unused-requires : tie.Need-lowest-unused-requires
-lowest-unused-requires c κs = edges-listed (c .before .before .before .pre) (c .before .edges .ensures) (c .edge-count .ensures) .area
+lowest-unused-requires c κs =
+    let pre = c .before .before .before .pre in
+    let edges = c .before .edges in
+    let edge-count = c .edge-count in
+    edges-listed pre (edges .ensures) (edge-count .ensures) .area
 
 returns : tie.Need-returns
-returns c = lowest-listed (edges-listed (c .before .before .before .before .pre) (c .before .before .edges .ensures) (c .before .edge-count .ensures)) (c .lowest-unused .ensures)
+returns c =
+    let pre = c .before .before .before .before .pre in
+    let edges = c .before .before .edges in
+    let edge-count = c .before .edge-count in
+    let lowest-unused = c .lowest-unused in
+    lowest-listed (edges-listed pre (edges .ensures) (edge-count .ensures)) (lowest-unused .ensures)
 
 pub lowest-free-edge-spec : {M : Type 1} → statement M
 lowest-free-edge-spec =

@@ -11,7 +11,11 @@ lowest-unused-requires : tie.Need-lowest-unused-requires
 lowest-unused-requires c κs = shapes-listed (c .before .before .pre) (c .shape-count .ensures) .area
 
 returns : tie.Need-returns
-returns c = lowest-listed (shapes-listed (c .before .before .before .pre) (c .before .shape-count .ensures)) (c .lowest-unused .ensures)
+returns c =
+    let pre = c .before .before .before .pre in
+    let shape-count = c .before .shape-count in
+    let lowest-unused = c .lowest-unused in
+    lowest-listed (shapes-listed pre (shape-count .ensures)) (lowest-unused .ensures)
 
 pub lowest-free-shape-spec : {M : Type 1} → statement M
 lowest-free-shape-spec = tie.close (tie.spec shape-count-requires lowest-unused-requires returns)

@@ -14,10 +14,22 @@ table-count-requires : tie.Need-table-count-requires
 table-count-requires c κs = search needs
 
 lowest-unused-requires : tie.Need-lowest-unused-requires
-lowest-unused-requires c κs = tables-listed (c .before .before .before .before .pre) (c .before .before .tables .ensures) (c .before .table-width .ensures) (c .table-count .ensures) .area
+lowest-unused-requires c κs =
+    let pre = c .before .before .before .before .pre in
+    let tables = c .before .before .tables in
+    let table-width = c .before .table-width in
+    let table-count = c .table-count in
+    tables-listed pre (tables .ensures) (table-width .ensures) (table-count .ensures) .area
 
 returns : tie.Need-returns
-returns c = lowest-listed (tables-listed (c .before .before .before .before .before .pre) (c .before .before .before .tables .ensures) (c .before .before .table-width .ensures) (c .before .table-count .ensures)) (c .lowest-unused .ensures)
+returns c =
+    let pre = c .before .before .before .before .before .pre in
+    let tables = c .before .before .before .tables in
+    let table-width = c .before .before .table-width in
+    let table-count = c .before .table-count in
+    let lowest-unused = c .lowest-unused in
+    lowest-listed (tables-listed pre (tables .ensures) (table-width .ensures) (table-count .ensures))
+    (lowest-unused .ensures)
 
 pub lowest-free-table-spec : {M : Type 1} → statement M
 lowest-free-table-spec =

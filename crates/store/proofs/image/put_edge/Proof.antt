@@ -10,13 +10,22 @@ edges-requires : tie.Need-edges-requires
 edges-requires c κs = search needs
 
 row-at-requires : tie.Need-row-at-requires
-row-at-requires c κs = (c .before .before .before .pre .1 .low, edge-row (c .before .before .before .pre .0) (c .edges .ensures) (c .before .before .before .pre .1) .inside)
+row-at-requires c κs =
+    let pre = c .before .before .before .pre in
+    let edges = c .edges in
+    (pre .1 .low, edge-row (pre .0) (edges .ensures) (pre .1) .inside)
 
 add-end : tie.Need-add-end
-add-end c = omega (arith, edge-row (c .before .before .before .before .pre .0) (c .before .edges .ensures) (c .before .before .before .before .pre .1) .inside)
+add-end c =
+    let pre = c .before .before .before .before .pre in
+    let edges = c .before .edges in
+    omega (arith, edge-row (pre .0) (edges .ensures) (pre .1) .inside)
 
 mul-write-edge : tie.Need-mul-write-edge
-mul-write-edge c = omega (arith, edge-row (c .before .before .before .before .pre .0) (c .before .edges .ensures) (c .before .before .before .before .pre .1) .inside)
+mul-write-edge c =
+    let pre = c .before .before .before .before .pre in
+    let edges = c .before .edges in
+    omega (arith, edge-row (pre .0) (edges .ensures) (pre .1) .inside)
 
 sub-write-edge : tie.Need-sub-write-edge
 sub-write-edge c = search needs
@@ -25,7 +34,10 @@ part-write-edge-start : tie.Need-part-write-edge-start
 part-write-edge-start c = search needs
 
 part-write-edge-end : tie.Need-part-write-edge-end
-part-write-edge-end c = omega (arith, edge-row (c .before .before .before .before .pre .0) (c .before .edges .ensures) (c .before .before .before .before .pre .1) .inside)
+part-write-edge-end c =
+    let pre = c .before .before .before .before .pre in
+    let edges = c .before .edges in
+    omega (arith, edge-row (pre .0) (edges .ensures) (pre .1) .inside)
 
 write-edge-requires : tie.Need-write-edge-requires
 write-edge-requires c κs = search needs
@@ -34,7 +46,14 @@ same-length : tie.Need-same-length
 same-length c = search needs
 
 returns : tie.Need-returns
-returns c = becomes (c .before .before .before .before .before .before .before .before .pre .0) (row-put (edge-row (c .before .before .before .before .before .before .before .before .pre .0) (c .before .before .before .before .before .edges .ensures) (c .before .before .before .before .before .before .before .before .pre .1)) _ (c .before .before .before .before .row-at .ensures) refl (c .before .before .write-edge .ensures) refl) (put-edge-sizes _ _ _)
+returns c =
+    let pre = c .before .before .before .before .before .before .before .before .pre in
+    let edges = c .before .before .before .before .before .edges in
+    let row-at = c .before .before .before .before .row-at in
+    let write-edge = c .before .before .write-edge in
+    becomes (pre .0)
+    (row-put (edge-row (pre .0) (edges .ensures) (pre .1)) _ (row-at .ensures) refl (write-edge .ensures)
+    refl) (put-edge-sizes _ _ _)
 
 pub put-edge-spec : {M : Type 1} → statement M
 put-edge-spec =

@@ -7,13 +7,19 @@ use Rattle.store.proofs.image.put_shape.Statement.{statement}
 use Rattle.store.proofs.image.put_shape.Tie as tie
 
 row-at-requires : tie.Need-row-at-requires
-row-at-requires c κs = (c .before .before .pre .1 .low, shape-row (c .before .before .pre .0) (c .before .before .pre .1) .inside)
+row-at-requires c κs =
+    let pre = c .before .before .pre in
+    (pre .1 .low, shape-row (pre .0) (pre .1) .inside)
 
 add-end : tie.Need-add-end
-add-end c = omega (arith, shape-row (c .before .before .before .pre .0) (c .before .before .before .pre .1) .inside)
+add-end c =
+    let pre = c .before .before .before .pre in
+    omega (arith, shape-row (pre .0) (pre .1) .inside)
 
 mul-write-shape : tie.Need-mul-write-shape
-mul-write-shape c = omega (arith, shape-row (c .before .before .before .pre .0) (c .before .before .before .pre .1) .inside)
+mul-write-shape c =
+    let pre = c .before .before .before .pre in
+    omega (arith, shape-row (pre .0) (pre .1) .inside)
 
 sub-write-shape : tie.Need-sub-write-shape
 sub-write-shape c = search needs
@@ -22,7 +28,9 @@ part-write-shape-start : tie.Need-part-write-shape-start
 part-write-shape-start c = search needs
 
 part-write-shape-end : tie.Need-part-write-shape-end
-part-write-shape-end c = omega (arith, shape-row (c .before .before .before .pre .0) (c .before .before .before .pre .1) .inside)
+part-write-shape-end c =
+    let pre = c .before .before .before .pre in
+    omega (arith, shape-row (pre .0) (pre .1) .inside)
 
 write-shape-requires : tie.Need-write-shape-requires
 write-shape-requires c κs = search needs
@@ -31,7 +39,13 @@ same-length : tie.Need-same-length
 same-length c = search needs
 
 returns : tie.Need-returns
-returns c = becomes (c .before .before .before .before .before .before .before .pre .0) (row-put (shape-row (c .before .before .before .before .before .before .before .pre .0) (c .before .before .before .before .before .before .before .pre .1)) _ (c .before .before .before .before .row-at .ensures) refl (c .before .before .write-shape .ensures) refl) (put-shape-sizes _ _ _)
+returns c =
+    let pre = c .before .before .before .before .before .before .before .pre in
+    let row-at = c .before .before .before .before .row-at in
+    let write-shape = c .before .before .write-shape in
+    becomes (pre .0)
+    (row-put (shape-row (pre .0) (pre .1)) _ (row-at .ensures) refl (write-shape .ensures) refl)
+    (put-shape-sizes _ _ _)
 
 pub put-shape-spec : {M : Type 1} → statement M
 put-shape-spec =

@@ -14,19 +14,41 @@ table-width-requires : tie.Need-table-width-requires
 table-width-requires c κs = search needs
 
 row-at-requires : tie.Need-row-at-requires
-row-at-requires c κs = (c .before .before .before .before .pre .1 .0 .low, table-row (c .before .before .before .before .pre .0) (c .before .tables .ensures) (c .table-width .ensures) (c .before .before .before .before .pre .1 .0) .inside)
+row-at-requires c κs =
+    let pre = c .before .before .before .before .pre in
+    let tables = c .before .tables in
+    let table-width = c .table-width in
+    (pre .1 .0 .low, table-row (pre .0) (tables .ensures) (table-width .ensures) (pre .1 .0) .inside)
 
 mul-image : tie.Need-mul-image
-mul-image c = omega (arith, table-row (c .before .before .before .before .before .pre .0) (c .before .before .tables .ensures) (c .before .table-width .ensures) (c .before .before .before .before .before .pre .1 .0) .inside)
+mul-image c =
+    let pre = c .before .before .before .before .before .pre in
+    let tables = c .before .before .tables in
+    let table-width = c .before .table-width in
+    omega (arith, table-row (pre .0) (tables .ensures) (table-width .ensures) (pre .1 .0) .inside)
 
 slice-write-image : tie.Need-slice-write-image
-slice-write-image c = omega (arith, table-row (c .before .before .before .before .before .pre .0) (c .before .before .tables .ensures) (c .before .table-width .ensures) (c .before .before .before .before .before .pre .1 .0) .inside, c .before .table-width .ensures)
+slice-write-image c =
+    let pre = c .before .before .before .before .before .pre in
+    let tables = c .before .before .tables in
+    let table-width = c .before .table-width in
+    omega (
+      arith,
+      table-row (pre .0) (tables .ensures) (table-width .ensures) (pre .1 .0) .inside,
+      table-width .ensures,
+    )
 
 same-length : tie.Need-same-length
 same-length c = search needs
 
 returns : tie.Need-returns
-returns c = started-becomes (c .before .before .before .before .before .pre .0) (c .before .before .before .before .before .pre .1 .0) (c .before .before .tables .ensures) (c .before .table-width .ensures) (c .row-at .ensures) refl (c .before .before .before .before .before .pre .1 .1)
+returns c =
+    let pre = c .before .before .before .before .before .pre in
+    let tables = c .before .before .tables in
+    let table-width = c .before .table-width in
+    let row-at = c .row-at in
+    started-becomes (pre .0) (pre .1 .0) (tables .ensures) (table-width .ensures) (row-at .ensures) refl
+    (pre .1 .1)
 
 pub start-table-spec : {M : Type 1} → statement M
 start-table-spec =

@@ -11,7 +11,10 @@ count-word-requires : tie.Need-count-word-requires
 count-word-requires c κs = search needs
 
 returns : tie.Need-returns
-returns c = rw (c .count-word .ensures) (count-free (tableAt (parse (now (c .before .before .args .image))) (c .before .before .args .t)))
+returns c =
+    let count-word = c .count-word in
+    let args = c .before .before .args in
+    rw (count-word .ensures) (count-free (tableAt (parse (now (args .image))) (args .t)))
 
 pub table-is-free-spec : {M : Type 1} → statement M
 table-is-free-spec = tie.close (tie.spec count-word-requires returns)

@@ -12,10 +12,19 @@ table-width-requires : tie.Need-table-width-requires
 table-width-requires c κs = search needs
 
 row-requires : tie.Need-row-requires
-row-requires c κs = (c .before .before .before .pre .1 .low, table-row (c .before .before .before .pre .0) (c .before .tables .ensures) (c .table-width .ensures) (c .before .before .before .pre .1) .inside)
+row-requires c κs =
+    let pre = c .before .before .before .pre in
+    let tables = c .before .tables in
+    let table-width = c .table-width in
+    (pre .1 .low, table-row (pre .0) (tables .ensures) (table-width .ensures) (pre .1) .inside)
 
 returns : tie.Need-returns
-returns c = c .row .ensures ∙ table-row (c .before .before .before .before .pre .0) (c .before .before .tables .ensures) (c .before .table-width .ensures) (c .before .before .before .before .pre .1) .read
+returns c =
+    let row = c .row in
+    let pre = c .before .before .before .before .pre in
+    let tables = c .before .before .tables in
+    let table-width = c .before .table-width in
+    row .ensures ∙ table-row (pre .0) (tables .ensures) (table-width .ensures) (pre .1) .read
 
 pub table-words-spec : {M : Type 1} → statement M
 table-words-spec = tie.close (tie.spec tables-requires table-width-requires row-requires returns)

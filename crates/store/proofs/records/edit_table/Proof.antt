@@ -36,7 +36,10 @@ same-length : tie.Need-same-length
 same-length c = search needs
 
 returns : tie.Need-returns
-returns c = entry-stored _ _ _ _ (c .before .before .before .before .row-at .ensures) refl (c .before .before .write-entry .ensures)
+returns c =
+    let row-at = c .before .before .before .before .row-at in
+    let write-entry = c .before .before .write-entry in
+    entry-stored _ _ _ _ (row-at .ensures) refl (write-entry .ensures)
 
 pub edit-table-spec : {M : Type 1} → statement M
 edit-table-spec =

@@ -29,7 +29,12 @@ one-if-requires : tie.Need-one-if-requires Inv-loop μ-loop
 one-if-requires c κs = search needs
 
 add-free : tie.Need-add-free Inv-loop μ-loop
-add-free c = omega (arith, at-most-one (c .before .is-unused .result) (c .one-if .ensures), c .before .before .before .loop .inv .few, c .before .before .before .before .before .pre .few)
+add-free c =
+    let is-unused = c .before .is-unused in
+    let one-if = c .one-if in
+    let loop = c .before .before .before .loop in
+    let pre = c .before .before .before .before .before .pre in
+    omega (arith, at-most-one (is-unused .result) (one-if .ensures), loop .inv .few, pre .few)
 
 add-done : tie.Need-add-done Inv-loop μ-loop
 add-done c = search needs
@@ -38,7 +43,13 @@ loop-less : tie.Need-loop-less Inv-loop μ-loop
 loop-less c = search needs
 
 loop-again : tie.Need-loop-again Inv-loop μ-loop
-loop-again c = count-next unused (c .before .before .before .loop .inv) [] (rw length-rows (c .before .before .loop-test .taken)) (c .one-if .ensures ∙ ap (λ (b : Bool). if b then 1 else 0) (c .before .is-unused .ensures))
+loop-again c =
+    let loop = c .before .before .before .loop in
+    let loop-test = c .before .before .loop-test in
+    let one-if = c .one-if in
+    let is-unused = c .before .is-unused in
+    count-next unused (loop .inv) [] (rw length-rows (loop-test .taken))
+    (one-if .ensures ∙ ap (λ (b : Bool). if b then 1 else 0) (is-unused .ensures))
 
 returns : tie.Need-returns Inv-loop μ-loop
 returns c = counted-all unused (c .before .loop .inv) (rw length-rows (c .loop-test .left))

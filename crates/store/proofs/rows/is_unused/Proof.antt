@@ -12,7 +12,11 @@ row-requires : tie.Need-row-requires
 row-requires c κs = (omega arith, area-spot (c .before .pre .0) (c .before .args .before) (c .before .pre .1))
 
 shared-slice-read-result : tie.Need-shared-slice-read-result
-shared-slice-read-result c = omega (arith, row-long (c .before .before .before .pre .0) (c .before .before .before .args .before) (c .before .before .before .pre .1) (c .before .row .ensures), c .before .before .before .pre .0 .wide)
+shared-slice-read-result c =
+    let pre = c .before .before .before .pre in
+    let args = c .before .before .before .args in
+    let row = c .before .row in
+    omega (arith, row-long (pre .0) (args .before) (pre .1) (row .ensures), pre .0 .wide)
 
 returns : tie.Need-returns
 returns c = row-unused _ _ _ _ _ (c .before .before .before .pre .1) (c .before .row .ensures)

@@ -26,7 +26,12 @@ add-result : tie.Need-add-result Inv-loop μ-loop
 add-result c = search needs
 
 returns : tie.Need-returns Inv-loop μ-loop
-returns c = sought unused (c .before .before .before .loop .inv) [] (rw length-rows (c .before .before .loop-test .taken)) (sym (c .before .is-unused .ensures) ∙ c .if1 .taken)
+returns c =
+    let loop = c .before .before .before .loop in
+    let loop-test = c .before .before .loop-test in
+    let is-unused = c .before .is-unused in
+    let if1 = c .if1 in
+    sought unused (loop .inv) [] (rw length-rows (loop-test .taken)) (sym (is-unused .ensures) ∙ if1 .taken)
 
 add-done : tie.Need-add-done Inv-loop μ-loop
 add-done c = search needs
@@ -35,7 +40,12 @@ loop-less : tie.Need-loop-less Inv-loop μ-loop
 loop-less c = search needs
 
 loop-again : tie.Need-loop-again Inv-loop μ-loop
-loop-again c = seek-on unused (c .before .before .before .loop .inv) [] (rw length-rows (c .before .before .loop-test .taken)) (sym (c .before .is-unused .ensures) ∙ c .if1 .left)
+loop-again c =
+    let loop = c .before .before .before .loop in
+    let loop-test = c .before .before .loop-test in
+    let is-unused = c .before .is-unused in
+    let if1 = c .if1 in
+    seek-on unused (loop .inv) [] (rw length-rows (loop-test .taken)) (sym (is-unused .ensures) ∙ if1 .left)
 
 returns-2 : tie.Need-returns-2 Inv-loop μ-loop
 returns-2 c = sought-nowhere unused (c .before .loop .inv) (rw length-rows (c .loop-test .left))
