@@ -1,0 +1,79 @@
+use borrow.Author.Needs.{needs}
+use Prim.Native.Nat.{_+_, _-_}
+use native.Mathlib.Omega.{arith}
+use lib.ListN.{length}
+use Rattle.store.specs.Model.{noEdge, edgeAt}
+use Rattle.store.specs.Layout.{parse}
+use mathlib.Core.Logic.{⊎-elim}
+use Rattle.rules.specs.Steps.{dead}
+use Rattle.forward_transition.specs.Loops.{Counting, count, one-more, no-more, counted-all}
+use Rattle.forward_transition.proofs.dead_edges.Statement.{statement}
+use Rattle.forward_transition.proofs.dead_edges.Tie as tie
+use Rattle.forward_transition.proofs.dead_edges.Reads as reads
+use Rattle.forward_transition.proofs.dead_edges.Lts as lts
+use Rattle.forward_transition.proofs.is_dead.Reads as is-dead-reads
+use Rattle.store.proofs.image.edge_count.Reads as edge-count-reads
+use Rattle.store.proofs.image.get_edge.Reads as get-edge-reads
+
+abbrev Inv-loop : tie.InvT-loop
+Inv-loop image parent kind count found₀ place₀ found place = Counting (dead parent kind) (parse image .edges) noEdge found place
+
+abbrev μ-loop : tie.MeasureT-loop
+μ-loop image parent kind count found₀ place₀ found place = length (parse image .edges) + 1 - place
+
+-- src/lib.rt:117:9
+edge-count-requires : tie.Need-edge-count-requires Inv-loop μ-loop
+edge-count-requires c κs = search needs
+
+-- src/lib.rt:120:5
+loop-holds : tie.Need-loop-holds Inv-loop μ-loop
+loop-holds c = count _ _ _
+
+-- src/lib.rt:121:20
+get-edge-requires : tie.Need-get-edge-requires Inv-loop μ-loop
+get-edge-requires c κs = search needs
+
+-- src/lib.rt:121:12
+is-dead-requires : tie.Need-is-dead-requires Inv-loop μ-loop
+is-dead-requires c κs = search needs
+
+-- src/lib.rt:122:13
+add-found : tie.Need-add-found Inv-loop μ-loop
+add-found c = search needs
+
+-- src/lib.rt:124:9
+add-place : tie.Need-add-place Inv-loop μ-loop
+add-place c = search needs
+
+-- src/lib.rt:120:5
+loop-less : tie.Need-loop-less Inv-loop μ-loop
+loop-less c = search needs
+
+-- src/lib.rt:120:5
+loop-again : tie.Need-loop-again Inv-loop μ-loop
+unfolding edgeAt
+loop-again c =
+    ⊎-elim
+    (λ w. rw (w .1) (one-more _ _ _ (c .before .before .before .before .loop .inv) (omega arith) (c .before .before .get-edge .ensures) (c .before .is-dead .ensures) (w .0 .taken)))
+    (λ w. rw (w .1) (no-more _ _ _ (c .before .before .before .before .loop .inv) (omega arith) (c .before .before .get-edge .ensures) (c .before .is-dead .ensures) (w .0 .left)))
+    (c .if1 .came)
+
+-- src/lib.rt:113:1
+returns : tie.Need-returns Inv-loop μ-loop
+returns c = counted-all _ _ _ (c .before .loop .inv) (omega arith)
+
+pub dead-edges-spec : {M : Type 1} → statement M
+dead-edges-spec =
+    tie.close
+    (tie.spec
+    Inv-loop
+    μ-loop
+    edge-count-requires
+    loop-holds
+    get-edge-requires
+    is-dead-requires
+    add-found
+    add-place
+    loop-less
+    loop-again
+    returns)

@@ -1,0 +1,67 @@
+use borrow.Author.Needs.{needs}
+use mathlib.Core.Path.{refl}
+use Prim.Native.Nat.{_+_, _-_}
+use native.Mathlib.Omega.{arith}
+use lib.ListN.{length}
+use Rattle.store.specs.Layout.{parse}
+use Rattle.forward_transition.specs.Loops.{change, change-done}
+use Rattle.forward_transition.specs.Transitions.{Pruning, prune-turn}
+use Rattle.forward_transition.proofs.prune.Statement.{statement}
+use Rattle.forward_transition.proofs.prune.Tie as tie
+use Rattle.forward_transition.proofs.prune.Reads as reads
+use Rattle.forward_transition.proofs.prune.Lts as lts
+use Rattle.forward_transition.proofs.free_if_dead.Reads as free-if-dead-reads
+use Rattle.store.proofs.image.edge_count.Reads as edge-count-reads
+
+abbrev Inv-loop : tie.InvT-loop
+Inv-loop image₀ parent kind count place₀ image place = Pruning parent kind image₀ place image
+
+abbrev μ-loop : tie.MeasureT-loop
+μ-loop image₀ parent kind count place₀ image place = length (parse image₀ .edges) + 1 - place
+
+-- src/lib.rt:104:9
+edge-count-requires : tie.Need-edge-count-requires Inv-loop μ-loop
+edge-count-requires c κs = search needs
+
+-- src/lib.rt:106:5
+loop-holds : tie.Need-loop-holds Inv-loop μ-loop
+loop-holds c = change _ _ _ _ _ (c .before .before .before .pre) refl
+
+-- src/lib.rt:107:9
+free-if-dead-requires : tie.Need-free-if-dead-requires Inv-loop μ-loop
+free-if-dead-requires c κs = search needs
+
+-- src/lib.rt:108:9
+add-place : tie.Need-add-place Inv-loop μ-loop
+add-place c = search needs
+
+-- src/lib.rt:106:5
+loop-less : tie.Need-loop-less Inv-loop μ-loop
+loop-less c = search needs
+
+-- src/lib.rt:106:5
+loop-again : tie.Need-loop-again Inv-loop μ-loop
+loop-again c = prune-turn _ _ (c .before .before .before .before .before .loop .inv) (omega arith) (c .before .before .free-if-dead .ensures)
+
+-- src/lib.rt:96:1
+same-length : tie.Need-same-length Inv-loop μ-loop
+same-length c = search needs
+
+-- src/lib.rt:96:1
+returns : tie.Need-returns Inv-loop μ-loop
+returns c = change-done _ _ _ _ _ (c .before .loop .inv) (omega arith)
+
+pub prune-spec : {M : Type 1} → statement M
+prune-spec =
+    tie.close
+    (tie.spec
+    Inv-loop
+    μ-loop
+    edge-count-requires
+    loop-holds
+    free-if-dead-requires
+    add-place
+    loop-less
+    loop-again
+    same-length
+    returns)
