@@ -2,7 +2,7 @@
 -- Assumes nothing.
 use mathlib.Core.Bool.{Bool, true, false}
 use mathlib.Core.List.{List}
-use mathlib.Core.Logic.{_≢_}
+use mathlib.Core.Logic.{_≢_, inl, inr}
 use mathlib.Core.Option.{Option, none, some}
 use mathlib.Core.Path.{_≡_, refl, _∙_}
 use Prim.Native.Nat.{ℕ, _+_, _%_, _≤_, _<_}
@@ -11,12 +11,14 @@ use native.Mathlib.Omega.{arith}
 use lib.Dec.{eqb}
 use lib.ListN.{length}
 use Rattle.slot.specs.If.{if_then_else_}
+use Rattle.store.specs.Lists.{lowest}
 use Rattle.store.specs.Model.{Model, noEdge, edgeAt, putEdge, shapeAt}
 use Rattle.store.specs.Layout.{parse}
-use Rattle.store.specs.Image.{Formed, Becomes, unchanged, and-then}
+use Rattle.store.specs.Image.{Formed, Place, Becomes, unchanged, and-then}
+use Rattle.store.specs.PlaceLaws.{FirstOrNone, first-or-none, lowest-first, lowest-none}
 use Rattle.store.specs.declared.Edge.{Edge}
 use Rattle.rules.specs.Steps.{dead, prune, counter, putCounter, withEdges, pruned, counted}
-use Rattle.forward_transition.specs.Loops.{Changing, change, change-turn, change-done, put-back}
+use Rattle.forward_transition.specs.Loops.{Changing, change-next, put-back}
 use Rattle.forward_transition.specs.declared.Transition.{Transition}
 use Rattle.forward_transition.specs.declared.Transition.the-variants.{Live, Dead, Absent}
 
@@ -53,17 +55,17 @@ module _ (n kind : ℕ) (ws : List ℕ) (p : ℕ) {e : Edge} (read : e ≡ edgeA
       → Becomes ws ws (putEdge (parse ws) p (unlessDead n kind (edgeAt (parse ws) p)))
   left other formed = rw (← read, ← tested, other, read, put-edge-back) (unchanged formed)
 
--- The loop: the edges before a place are pruned.
-abbrev pub Pruning : (parent kind : ℕ) (before : List ℕ) (p : ℕ) (now : List ℕ) → Type 0
-Pruning n kind before p now =
-    Changing (unlessDead n kind) noEdge (withEdges (parse before)) (parse before .edges) before p now
+-- The loop: so many edges are pruned.
+abbrev pub Pruning : (parent kind : ℕ) (before : List ℕ) (done : ℕ) (now : List ℕ) → Type 0
+Pruning n kind before done now =
+    Changing (unlessDead n kind) noEdge (withEdges (parse before)) (parse before .edges) before done now
 
-pub prune-turn : (n kind : ℕ) {before : List ℕ} {p : ℕ} {now after : List ℕ} → Pruning n kind before p now
-    → p ≤ length (parse before .edges)
-    → Becomes now after (putEdge (parse now) p (unlessDead n kind (edgeAt (parse now) p)))
-    → Pruning n kind before (p + 1) after
+pub prune-next : (n kind : ℕ) {before now after : List ℕ} {done : ℕ} → Pruning n kind before done now
+    → done < length (parse before .edges)
+    → Becomes now after (putEdge (parse now) (done + 1) (unlessDead n kind (edgeAt (parse now) (done + 1))))
+    → Pruning n kind before (done + 1) after
 unfolding putEdge edgeAt
-prune-turn n kind c inside turn = change-turn _ _ _ _ _ c inside (rw (c .sofar .parsed) at turn)
+prune-next n kind c inside turn = change-next _ _ _ _ _ c inside (rw (c .sofar .parsed) at turn)
 
 -- ## The counter
 
@@ -94,3 +96,13 @@ module _ (ws : List ℕ) (n kind old : ℕ) where
           let not-old = eqb-false old 255 other in
           let one-more : next ≡ old + 1 = raised ∙ omega arith in
           rw one-more at done
+
+-- ## A free place
+
+pub lowest-inside : {A : Type 0} (test : A → Bool) (d : A) (xs : List A) → 1 ≤ lowest test 1 xs
+    → Place (length xs) (lowest test 1 xs)
+lowest-inside test d xs low = record { low = low; high = go (first-or-none test d xs) }
+  where
+    go : FirstOrNone test d xs → lowest test 1 xs ≤ length xs
+    go (inl (k, f)) = let inside = f .inside in omega (arith, lowest-first test d 1 xs k f)
+    go (inr h) = omega (arith, lowest-none test d 1 xs h)

@@ -4,6 +4,7 @@ use store::Edge;
 use store::image::edge_count;
 use store::image::get_edge;
 use store::image::get_shape;
+use store::image::lowest_free_edge;
 use store::image::put_edge;
 use store::image::put_shape;
 ghost use mathlib.Core.Path.{_≡_};
@@ -11,10 +12,10 @@ ghost use mathlib.Core.Bool.{_&&_};
 ghost use lib.Dec.{eqb};
 ghost use Prim.Native.Nat.{_≤_};
 ghost use lib.ListN.{length};
-ghost use Rattle.store.specs.Lists.{first, keep};
+ghost use Rattle.store.specs.Lists.{first, keep, lowest};
 ghost use Rattle.store.specs.Layout.{parse};
 ghost use Rattle.store.specs.Image.{Formed, Place, Becomes};
-ghost use Rattle.store.specs.Model.{edgeAt, putEdge, shapeAt};
+ghost use Rattle.store.specs.Model.{freeEdge, edgeAt, putEdge, shapeAt};
 ghost use Rattle.rules.specs.Steps.{alike, dead, prune, counter, setCounter, putCounter, withEdges, pruned, counted};
 ghost use Rattle.forward_transition.specs.Transitions.{transitionOf, unlessDead, atLimit};
 
@@ -54,16 +55,16 @@ pub fn get(image: &[u32], wanted: Edge) -> Transition
         ⌝ }
 {
     let count = edge_count(image);
-    let mut place = 1;
-    while place <= count {
-        let e = get_edge(image, place);
+    let mut done = 0;
+    while done < count {
+        let e = get_edge(image, done + 1);
         if agree(e, wanted) {
             if e.child == 0 {
                 return Transition::Dead;
             }
             return Transition::Live(e.child);
         }
-        place += 1;
+        done += 1;
     }
     Transition::Absent
 }
@@ -102,10 +103,10 @@ pub fn prune(image: &mut [u32], parent: u32, kind: u32)
         ⌝ }
 {
     let count = edge_count(image);
-    let mut place = 1;
-    while place <= count {
-        free_if_dead(image, place, parent, kind);
-        place += 1;
+    let mut done = 0;
+    while done < count {
+        free_if_dead(image, done + 1, parent, kind);
+        done += 1;
     }
 }
 
@@ -116,12 +117,12 @@ pub fn dead_edges(image: &[u32], parent: u32, kind: u32) -> u32
 {
     let count = edge_count(image);
     let mut found = 0;
-    let mut place = 1;
-    while place <= count {
-        if is_dead(get_edge(image, place), parent, kind) {
+    let mut done = 0;
+    while done < count {
+        if is_dead(get_edge(image, done + 1), parent, kind) {
             found += 1;
         }
-        place += 1;
+        done += 1;
     }
     found
 }
@@ -215,4 +216,18 @@ pub fn count_up(image: &mut [u32], parent: u32, kind: u32)
     let old = insertion_count(image, parent, kind);
     prune_at_limit(image, parent, kind, old);
     put_counter(image, parent, kind, std::num::wrapping_add_u8(old, 1));
+}
+
+// The edge takes the lowest free place.
+pub fn add_edge(image: &mut [u32], e: Edge)
+    requires { ⌜ Formed (now image) ⌝ }
+    requires { ⌜ 1 ≤ lowest freeEdge 1 (parse (now image) .edges) ⌝ }
+    ensures { λ _. ⌜
+        Becomes (now (image .entry)) (now (image .exit))
+        (putEdge (parse (now (image .entry)))
+        (lowest freeEdge 1 (parse (now (image .entry)) .edges)) e)
+        ⌝ }
+{
+    let place = lowest_free_edge(image);
+    put_edge(image, place, e);
 }

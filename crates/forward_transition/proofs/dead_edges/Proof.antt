@@ -1,12 +1,13 @@
 use borrow.Author.Needs.{needs}
-use Prim.Native.Nat.{_+_, _-_}
+use Prim.Native.Nat.{_-_}
 use native.Mathlib.Omega.{arith}
 use lib.ListN.{length}
 use Rattle.store.specs.Model.{noEdge, edgeAt}
 use Rattle.store.specs.Layout.{parse}
 use mathlib.Core.Logic.{⊎-elim}
+use Rattle.store.specs.FreePlaces.{Counting, count, counted-all}
 use Rattle.rules.specs.Steps.{dead}
-use Rattle.forward_transition.specs.Loops.{Counting, count, one-more, no-more, counted-all}
+use Rattle.forward_transition.specs.Loops.{count-one, count-none}
 use Rattle.forward_transition.proofs.dead_edges.Statement.{statement}
 use Rattle.forward_transition.proofs.dead_edges.Tie as tie
 use Rattle.forward_transition.proofs.dead_edges.Reads as reads
@@ -16,10 +17,10 @@ use Rattle.store.proofs.image.edge_count.Reads as edge-count-reads
 use Rattle.store.proofs.image.get_edge.Reads as get-edge-reads
 
 abbrev Inv-loop : tie.InvT-loop
-Inv-loop image parent kind count found₀ place₀ found place = Counting (dead parent kind) (parse image .edges) noEdge found place
+Inv-loop image parent kind count found₀ done₀ found done = Counting (dead parent kind) (parse image .edges) done found
 
 abbrev μ-loop : tie.MeasureT-loop
-μ-loop image parent kind count found₀ place₀ found place = length (parse image .edges) + 1 - place
+μ-loop image parent kind count found₀ done₀ found done = length (parse image .edges) - done
 
 -- src/lib.rt:117:9
 edge-count-requires : tie.Need-edge-count-requires Inv-loop μ-loop
@@ -27,7 +28,11 @@ edge-count-requires c κs = search needs
 
 -- src/lib.rt:120:5
 loop-holds : tie.Need-loop-holds Inv-loop μ-loop
-loop-holds c = count _ _ _
+loop-holds c = count _ _
+
+-- src/lib.rt:121:36
+add-get-edge : tie.Need-add-get-edge Inv-loop μ-loop
+add-get-edge c = search needs
 
 -- src/lib.rt:121:20
 get-edge-requires : tie.Need-get-edge-requires Inv-loop μ-loop
@@ -42,8 +47,8 @@ add-found : tie.Need-add-found Inv-loop μ-loop
 add-found c = search needs
 
 -- src/lib.rt:124:9
-add-place : tie.Need-add-place Inv-loop μ-loop
-add-place c = search needs
+add-done : tie.Need-add-done Inv-loop μ-loop
+add-done c = search needs
 
 -- src/lib.rt:120:5
 loop-less : tie.Need-loop-less Inv-loop μ-loop
@@ -54,13 +59,15 @@ loop-again : tie.Need-loop-again Inv-loop μ-loop
 unfolding edgeAt
 loop-again c =
     ⊎-elim
-    (λ w. rw (w .1) (one-more _ _ _ (c .before .before .before .before .loop .inv) (omega arith) (c .before .before .get-edge .ensures) (c .before .is-dead .ensures) (w .0 .taken)))
-    (λ w. rw (w .1) (no-more _ _ _ (c .before .before .before .before .loop .inv) (omega arith) (c .before .before .get-edge .ensures) (c .before .is-dead .ensures) (w .0 .left)))
+    (λ w. rw (w .1)
+    (count-one noEdge (omega arith) (c .before .before .get-edge .ensures) (c .before .is-dead .ensures) (c .before .before .before .before .loop .inv) (w .0 .taken)))
+    (λ w. rw (w .1)
+    (count-none noEdge (omega arith) (c .before .before .get-edge .ensures) (c .before .is-dead .ensures) (c .before .before .before .before .loop .inv) (w .0 .left)))
     (c .if1 .came)
 
 -- src/lib.rt:113:1
 returns : tie.Need-returns Inv-loop μ-loop
-returns c = counted-all _ _ _ (c .before .loop .inv) (omega arith)
+returns c = counted-all _ (c .before .loop .inv) (omega arith)
 
 pub dead-edges-spec : {M : Type 1} → statement M
 dead-edges-spec =
@@ -70,10 +77,11 @@ dead-edges-spec =
     μ-loop
     edge-count-requires
     loop-holds
+    add-get-edge
     get-edge-requires
     is-dead-requires
     add-found
-    add-place
+    add-done
     loop-less
     loop-again
     returns)

@@ -1,5 +1,5 @@
 use borrow.Author.Needs.{needs}
-use Prim.Native.Nat.{_+_, _-_}
+use Prim.Native.Nat.{_-_}
 use native.Mathlib.Omega.{arith}
 use lib.ListN.{length}
 use Rattle.store.specs.Model.{noEdge, edgeAt}
@@ -17,10 +17,10 @@ use Rattle.store.proofs.image.edge_count.Reads as edge-count-reads
 use Rattle.store.proofs.image.get_edge.Reads as get-edge-reads
 
 abbrev Inv-loop : tie.InvT-loop
-Inv-loop image wanted count place₀ place = Looking (alike wanted) (parse image .edges) noEdge place
+Inv-loop image wanted count done₀ done = Looking (alike wanted) (parse image .edges) done
 
 abbrev μ-loop : tie.MeasureT-loop
-μ-loop image wanted count place₀ place = length (parse image .edges) + 1 - place
+μ-loop image wanted count done₀ done = length (parse image .edges) - done
 
 -- src/lib.rt:56:9
 edge-count-requires : tie.Need-edge-count-requires Inv-loop μ-loop
@@ -28,7 +28,11 @@ edge-count-requires c κs = search needs
 
 -- src/lib.rt:58:5
 loop-holds : tie.Need-loop-holds Inv-loop μ-loop
-loop-holds c = look _ _ _
+loop-holds c = look _ _
+
+-- src/lib.rt:59:33
+add-get-edge : tie.Need-add-get-edge Inv-loop μ-loop
+add-get-edge c = search needs
 
 -- src/lib.rt:59:13
 get-edge-requires : tie.Need-get-edge-requires Inv-loop μ-loop
@@ -41,16 +45,16 @@ agree-requires c κs = search needs
 -- src/lib.rt:62:17
 returns : tie.Need-returns Inv-loop μ-loop
 unfolding edgeAt
-returns c = found-dead _ (hit _ _ _ (c .before .before .before .before .before .before .loop .inv) (omega arith) (c .before .before .before .before .get-edge .ensures) (c .before .before .before .agree .ensures) (c .before .before .if1 .taken)) (c .if2 .taken)
+returns c = found-dead _ (hit noEdge (omega arith) (c .before .before .before .before .get-edge .ensures) (c .before .before .before .agree .ensures) (c .before .before .before .before .before .before .loop .inv) (c .before .before .if1 .taken)) (c .if2 .taken)
 
 -- src/lib.rt:64:13
 returns-2 : tie.Need-returns-2 Inv-loop μ-loop
 unfolding edgeAt
-returns-2 c = found-live _ (hit _ _ _ (c .before .before .before .before .before .before .loop .inv) (omega arith) (c .before .before .before .before .get-edge .ensures) (c .before .before .before .agree .ensures) (c .before .before .if1 .taken)) (c .if2 .left)
+returns-2 c = found-live _ (hit noEdge (omega arith) (c .before .before .before .before .get-edge .ensures) (c .before .before .before .agree .ensures) (c .before .before .before .before .before .before .loop .inv) (c .before .before .if1 .taken)) (c .if2 .left)
 
 -- src/lib.rt:66:9
-add-place : tie.Need-add-place Inv-loop μ-loop
-add-place c = search needs
+add-done : tie.Need-add-done Inv-loop μ-loop
+add-done c = search needs
 
 -- src/lib.rt:58:5
 loop-less : tie.Need-loop-less Inv-loop μ-loop
@@ -59,11 +63,11 @@ loop-less c = search needs
 -- src/lib.rt:58:5
 loop-again : tie.Need-loop-again Inv-loop μ-loop
 unfolding edgeAt
-loop-again c = miss _ _ _ (c .before .before .before .before .loop .inv) (omega arith) (c .before .before .get-edge .ensures) (c .before .agree .ensures) (c .if1 .left)
+loop-again c = miss noEdge (omega arith) (c .before .before .get-edge .ensures) (c .before .agree .ensures) (c .before .before .before .before .loop .inv) (c .if1 .left)
 
 -- src/lib.rt:50:1
 returns-3 : tie.Need-returns-3 Inv-loop μ-loop
-returns-3 c = ap transitionOf (nowhere _ _ _ (c .before .loop .inv) (omega arith))
+returns-3 c = ap transitionOf (nowhere _ (c .before .loop .inv) (omega arith))
 
 pub get-spec : {M : Type 1} → statement M
 get-spec =
@@ -73,11 +77,12 @@ get-spec =
     μ-loop
     edge-count-requires
     loop-holds
+    add-get-edge
     get-edge-requires
     agree-requires
     returns
     returns-2
-    add-place
+    add-done
     loop-less
     loop-again
     returns-3)

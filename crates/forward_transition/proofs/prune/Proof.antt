@@ -1,11 +1,11 @@
 use borrow.Author.Needs.{needs}
 use mathlib.Core.Path.{refl}
-use Prim.Native.Nat.{_+_, _-_}
+use Prim.Native.Nat.{_-_}
 use native.Mathlib.Omega.{arith}
 use lib.ListN.{length}
 use Rattle.store.specs.Layout.{parse}
 use Rattle.forward_transition.specs.Loops.{change, change-done}
-use Rattle.forward_transition.specs.Transitions.{Pruning, prune-turn}
+use Rattle.forward_transition.specs.Transitions.{Pruning, prune-next}
 use Rattle.forward_transition.proofs.prune.Statement.{statement}
 use Rattle.forward_transition.proofs.prune.Tie as tie
 use Rattle.forward_transition.proofs.prune.Reads as reads
@@ -14,10 +14,10 @@ use Rattle.forward_transition.proofs.free_if_dead.Reads as free-if-dead
 use Rattle.store.proofs.image.edge_count.Reads as edge-count-reads
 
 abbrev Inv-loop : tie.InvT-loop
-Inv-loop image₀ parent kind count place₀ image place = Pruning parent kind image₀ place image
+Inv-loop image₀ parent kind count done₀ image done = Pruning parent kind image₀ done image
 
 abbrev μ-loop : tie.MeasureT-loop
-μ-loop image₀ parent kind count place₀ image place = length (parse image₀ .edges) + 1 - place
+μ-loop image₀ parent kind count done₀ image done = length (parse image₀ .edges) - done
 
 -- src/lib.rt:104:9
 edge-count-requires : tie.Need-edge-count-requires Inv-loop μ-loop
@@ -27,13 +27,17 @@ edge-count-requires c κs = search needs
 loop-holds : tie.Need-loop-holds Inv-loop μ-loop
 loop-holds c = change _ _ _ _ _ (c .before .before .before .pre) refl
 
+-- src/lib.rt:107:29
+add-free-if-dead : tie.Need-add-free-if-dead Inv-loop μ-loop
+add-free-if-dead c = search needs
+
 -- src/lib.rt:107:9
 free-if-dead-requires : tie.Need-free-if-dead-requires Inv-loop μ-loop
 free-if-dead-requires c κs = search needs
 
 -- src/lib.rt:108:9
-add-place : tie.Need-add-place Inv-loop μ-loop
-add-place c = search needs
+add-done : tie.Need-add-done Inv-loop μ-loop
+add-done c = search needs
 
 -- src/lib.rt:106:5
 loop-less : tie.Need-loop-less Inv-loop μ-loop
@@ -41,7 +45,7 @@ loop-less c = search needs
 
 -- src/lib.rt:106:5
 loop-again : tie.Need-loop-again Inv-loop μ-loop
-loop-again c = prune-turn _ _ (c .before .before .before .before .before .loop .inv) (omega arith) (c .before .before .free-if-dead .ensures)
+loop-again c = prune-next _ _ (c .before .before .before .before .before .loop .inv) (omega arith) (c .before .before .free-if-dead .ensures)
 
 -- src/lib.rt:96:1
 same-length : tie.Need-same-length Inv-loop μ-loop
@@ -59,8 +63,9 @@ prune-spec =
     μ-loop
     edge-count-requires
     loop-holds
+    add-free-if-dead
     free-if-dead-requires
-    add-place
+    add-done
     loop-less
     loop-again
     same-length
