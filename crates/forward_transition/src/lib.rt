@@ -1,4 +1,5 @@
-// The edges that lead from a shape to the shapes that its steps made: shared_shape/forward_transition.rs.
+// The edges that lead from a shape to the children that its steps made.
+// A dead edge is one whose child was swept.
 use store::Counters;
 use store::Edge;
 use store::image::edge_count;
@@ -10,16 +11,17 @@ use store::image::put_shape;
 ghost use mathlib.Core.Path.{_≡_};
 ghost use mathlib.Core.Bool.{_&&_};
 ghost use lib.Dec.{eqb};
-ghost use Prim.Native.Nat.{_≤_};
+ghost use Prim.Native.Nat.{_+_, _%_, _≤_};
 ghost use lib.ListN.{length};
 ghost use Rattle.store.specs.Lists.{first, keep, lowest};
 ghost use Rattle.store.specs.Layout.{parse};
 ghost use Rattle.store.specs.Image.{Formed, Place, Becomes};
 ghost use Rattle.store.specs.Model.{freeEdge, edgeAt, putEdge, shapeAt};
-ghost use Rattle.rules.specs.Steps.{alike, dead, prune, counter, setCounter, putCounter, withEdges, pruned, counted};
+ghost use Rattle.rules.specs.Steps.{alike, dead, prune, withEdges, pruned, counted};
+ghost use Rattle.rules.specs.Steps.{counter, setCounter, putCounter};
 ghost use Rattle.forward_transition.specs.Transitions.{transitionOf, unlessDead, atLimit};
 
-// What the edges say of a step: its child, or that the child was swept, or that there is no edge for it.
+// What the edges say of a step: its child, that its child was swept, or that none was made.
 pub enum Transition {
     Live(u32),
     Dead,
@@ -55,16 +57,16 @@ pub fn get(image: &[u32], wanted: Edge) -> Transition
         ⌝ }
 {
     let count = edge_count(image);
-    let mut done = 0;
-    while done < count {
-        let e = get_edge(image, done + 1);
+    let mut passed = 0;
+    while passed < count {
+        let e = get_edge(image, passed + 1);
         if agree(e, wanted) {
             if e.child == 0 {
                 return Transition::Dead;
             }
             return Transition::Live(e.child);
         }
-        done += 1;
+        passed += 1;
     }
     Transition::Absent
 }
@@ -117,12 +119,12 @@ pub fn dead_edges(image: &[u32], parent: u32, kind: u32) -> u32
 {
     let count = edge_count(image);
     let mut found = 0;
-    let mut done = 0;
-    while done < count {
-        if is_dead(get_edge(image, done + 1), parent, kind) {
+    let mut seen = 0;
+    while seen < count {
+        if is_dead(get_edge(image, seen + 1), parent, kind) {
             found += 1;
         }
-        done += 1;
+        seen += 1;
     }
     found
 }
@@ -203,6 +205,12 @@ fn prune_at_limit(image: &mut [u32], parent: u32, kind: u32, old: u8)
     }
 }
 
+fn raised(old: u8) -> u8
+    ensures { λ r. ⌜ r ≡ (old + 1) % 256 ⌝ }
+{
+    std::num::wrapping_add_u8(old, 1)
+}
+
 // An edge will be added: every 256th insertion prunes, as the counter wraps.
 pub fn count_up(image: &mut [u32], parent: u32, kind: u32)
     requires { ⌜ Formed (now image) ⌝ }
@@ -215,7 +223,7 @@ pub fn count_up(image: &mut [u32], parent: u32, kind: u32)
 {
     let old = insertion_count(image, parent, kind);
     prune_at_limit(image, parent, kind, old);
-    put_counter(image, parent, kind, std::num::wrapping_add_u8(old, 1));
+    put_counter(image, parent, kind, raised(old));
 }
 
 // The edge takes the lowest free place.

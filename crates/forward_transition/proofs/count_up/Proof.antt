@@ -8,7 +8,7 @@ use Rattle.forward_transition.proofs.count_up.Lts as lts
 use Rattle.forward_transition.proofs.insertion_count.Reads as insertion-count-reads
 use Rattle.forward_transition.proofs.prune_at_limit.Reads as prune-at-limit-reads
 use Rattle.forward_transition.proofs.put_counter.Reads as put-counter-reads
-use Rattle.std.proofs.num.wrapping_add_u8.Reads as wrapping-add-u8-reads
+use Rattle.forward_transition.proofs.raised.Reads as raised-reads
 
 -- src/lib.rt:215:9
 insertion-count-requires : tie.Need-insertion-count-requires
@@ -19,8 +19,8 @@ prune-at-limit-requires : tie.Need-prune-at-limit-requires
 prune-at-limit-requires c κs = search needs
 
 -- src/lib.rt:217:38
-wrapping-add-u8-requires : tie.Need-wrapping-add-u8-requires
-wrapping-add-u8-requires c κs = search needs
+raised-requires : tie.Need-raised-requires
+raised-requires c κs = search needs
 
 -- src/lib.rt:217:5
 put-counter-requires : tie.Need-put-counter-requires
@@ -32,7 +32,7 @@ same-length c = search needs
 
 -- src/lib.rt:206:1
 returns : tie.Need-returns
-returns c = count-raised _ _ _ _ (c .before .before .before .before .before .before .before .before .before .insertion-count .ensures) (omega arith) (c .before .before .before .wrapping-add-u8 .ensures) (c .before .before .before .before .before .before .before .prune-at-limit .ensures) (c .before .before .put-counter .ensures)
+returns c = count-raised _ _ _ _ (c .before .before .before .before .before .before .before .before .before .insertion-count .ensures) (omega arith) (c .before .before .before .raised .ensures) (c .before .before .before .before .before .before .before .prune-at-limit .ensures) (c .before .before .put-counter .ensures)
 
 pub count-up-spec : {M : Type 1} → statement M
 count-up-spec =
@@ -40,7 +40,7 @@ count-up-spec =
     (tie.spec
     insertion-count-requires
     prune-at-limit-requires
-    wrapping-add-u8-requires
+    raised-requires
     put-counter-requires
     same-length
     returns)

@@ -17,10 +17,10 @@ use Rattle.store.proofs.image.edge_count.Reads as edge-count-reads
 use Rattle.store.proofs.image.get_edge.Reads as get-edge-reads
 
 abbrev Inv-loop : tie.InvT-loop
-Inv-loop image parent kind count found₀ done₀ found done = Counting (dead parent kind) (parse image .edges) done found
+Inv-loop image parent kind count found₀ seen₀ found seen = Counting (dead parent kind) (parse image .edges) seen found
 
 abbrev μ-loop : tie.MeasureT-loop
-μ-loop image parent kind count found₀ done₀ found done = length (parse image .edges) - done
+μ-loop image parent kind count found₀ seen₀ found seen = length (parse image .edges) - seen
 
 -- src/lib.rt:117:9
 edge-count-requires : tie.Need-edge-count-requires Inv-loop μ-loop
@@ -47,8 +47,8 @@ add-found : tie.Need-add-found Inv-loop μ-loop
 add-found c = search needs
 
 -- src/lib.rt:124:9
-add-done : tie.Need-add-done Inv-loop μ-loop
-add-done c = search needs
+add-seen : tie.Need-add-seen Inv-loop μ-loop
+add-seen c = search needs
 
 -- src/lib.rt:120:5
 loop-less : tie.Need-loop-less Inv-loop μ-loop
@@ -81,7 +81,7 @@ dead-edges-spec =
     get-edge-requires
     is-dead-requires
     add-found
-    add-done
+    add-seen
     loop-less
     loop-again
     returns)

@@ -17,10 +17,10 @@ use Rattle.store.proofs.image.edge_count.Reads as edge-count-reads
 use Rattle.store.proofs.image.get_edge.Reads as get-edge-reads
 
 abbrev Inv-loop : tie.InvT-loop
-Inv-loop image wanted count done₀ done = Looking (alike wanted) (parse image .edges) done
+Inv-loop image wanted count passed₀ passed = Looking (alike wanted) (parse image .edges) passed
 
 abbrev μ-loop : tie.MeasureT-loop
-μ-loop image wanted count done₀ done = length (parse image .edges) - done
+μ-loop image wanted count passed₀ passed = length (parse image .edges) - passed
 
 -- src/lib.rt:56:9
 edge-count-requires : tie.Need-edge-count-requires Inv-loop μ-loop
@@ -53,8 +53,8 @@ unfolding edgeAt
 returns-2 c = found-live _ (hit noEdge (omega arith) (c .before .before .before .before .get-edge .ensures) (c .before .before .before .agree .ensures) (c .before .before .before .before .before .before .loop .inv) (c .before .before .if1 .taken)) (c .if2 .left)
 
 -- src/lib.rt:66:9
-add-done : tie.Need-add-done Inv-loop μ-loop
-add-done c = search needs
+add-passed : tie.Need-add-passed Inv-loop μ-loop
+add-passed c = search needs
 
 -- src/lib.rt:58:5
 loop-less : tie.Need-loop-less Inv-loop μ-loop
@@ -82,7 +82,7 @@ get-spec =
     agree-requires
     returns
     returns-2
-    add-done
+    add-passed
     loop-less
     loop-again
     returns-3)
