@@ -1,30 +1,25 @@
+-- `forward_transition::add_edge` meets its contract.
+-- Assumes nothing.
 use borrow.Author.Needs.{needs}
 use Rattle.store.specs.Model.{freeEdge, noEdge}
 use Rattle.store.specs.Layout.{parse}
 use Rattle.forward_transition.specs.Transitions.{lowest-inside}
 use Rattle.forward_transition.proofs.add_edge.Statement.{statement}
 use Rattle.forward_transition.proofs.add_edge.Tie as tie
-use Rattle.forward_transition.proofs.add_edge.Reads as reads
-use Rattle.forward_transition.proofs.add_edge.Lts as lts
-use Rattle.store.proofs.image.lowest_free_edge.Reads as lowest-free-edge-reads
-use Rattle.store.proofs.image.put_edge.Reads as put-edge-reads
 
--- src/lib.rt:231:9
 lowest-free-edge-requires : tie.Need-lowest-free-edge-requires
 lowest-free-edge-requires c κs = search needs
 
--- src/lib.rt:232:5
 put-edge-requires : tie.Need-put-edge-requires
 put-edge-requires c κs =
     (c .before .before .before .before .pre .0, rw (c .before .lowest-free-edge .ensures) (lowest-inside freeEdge noEdge (parse (c .before .before .before .before .args .image .now) .edges) (c .before .before .before .before .pre .1)))
 
--- src/lib.rt:222:1
 same-length : tie.Need-same-length
 same-length c = search needs
 
--- src/lib.rt:222:1
 returns : tie.Need-returns
-returns c = rw (← c .before .before .before .before .lowest-free-edge .ensures) (c .before .before .put-edge .ensures)
+returns c =
+    rw (← c .before .before .before .before .lowest-free-edge .ensures) (c .before .before .put-edge .ensures)
 
 pub add-edge-spec : {M : Type 1} → statement M
 add-edge-spec =

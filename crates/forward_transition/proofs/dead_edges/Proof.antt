@@ -1,60 +1,49 @@
-use borrow.Author.Needs.{needs}
+-- `forward_transition::dead_edges` meets its contract.
+-- Assumes nothing.
+use mathlib.Core.Logic.{⊎-elim}
 use Prim.Native.Nat.{_-_}
 use native.Mathlib.Omega.{arith}
+use borrow.Author.Needs.{needs}
 use lib.ListN.{length}
 use Rattle.store.specs.Model.{noEdge, edgeAt}
 use Rattle.store.specs.Layout.{parse}
-use mathlib.Core.Logic.{⊎-elim}
 use Rattle.store.specs.FreePlaces.{Counting, count, counted-all}
 use Rattle.rules.specs.Steps.{dead}
 use Rattle.forward_transition.specs.Loops.{count-one, count-none}
 use Rattle.forward_transition.proofs.dead_edges.Statement.{statement}
 use Rattle.forward_transition.proofs.dead_edges.Tie as tie
-use Rattle.forward_transition.proofs.dead_edges.Reads as reads
-use Rattle.forward_transition.proofs.dead_edges.Lts as lts
-use Rattle.forward_transition.proofs.is_dead.Reads as is-dead-reads
-use Rattle.store.proofs.image.edge_count.Reads as edge-count-reads
-use Rattle.store.proofs.image.get_edge.Reads as get-edge-reads
 
 abbrev Inv-loop : tie.InvT-loop
-Inv-loop image parent kind count found₀ seen₀ found seen = Counting (dead parent kind) (parse image .edges) seen found
+Inv-loop image parent kind count found₀ seen₀ found seen =
+    Counting (dead parent kind) (parse image .edges) seen found
 
 abbrev μ-loop : tie.MeasureT-loop
 μ-loop image parent kind count found₀ seen₀ found seen = length (parse image .edges) - seen
 
--- src/lib.rt:117:9
 edge-count-requires : tie.Need-edge-count-requires Inv-loop μ-loop
 edge-count-requires c κs = search needs
 
--- src/lib.rt:120:5
 loop-holds : tie.Need-loop-holds Inv-loop μ-loop
 loop-holds c = count _ _
 
--- src/lib.rt:121:36
 add-get-edge : tie.Need-add-get-edge Inv-loop μ-loop
 add-get-edge c = search needs
 
--- src/lib.rt:121:20
 get-edge-requires : tie.Need-get-edge-requires Inv-loop μ-loop
 get-edge-requires c κs = search needs
 
--- src/lib.rt:121:12
 is-dead-requires : tie.Need-is-dead-requires Inv-loop μ-loop
 is-dead-requires c κs = search needs
 
--- src/lib.rt:122:13
 add-found : tie.Need-add-found Inv-loop μ-loop
 add-found c = search needs
 
--- src/lib.rt:124:9
 add-seen : tie.Need-add-seen Inv-loop μ-loop
 add-seen c = search needs
 
--- src/lib.rt:120:5
 loop-less : tie.Need-loop-less Inv-loop μ-loop
 loop-less c = search needs
 
--- src/lib.rt:120:5
 loop-again : tie.Need-loop-again Inv-loop μ-loop
 unfolding edgeAt
 loop-again c =
@@ -65,7 +54,6 @@ loop-again c =
     (count-none noEdge (omega arith) (c .before .before .get-edge .ensures) (c .before .is-dead .ensures) (c .before .before .before .before .loop .inv) (w .0 .left)))
     (c .if1 .came)
 
--- src/lib.rt:113:1
 returns : tie.Need-returns Inv-loop μ-loop
 returns c = counted-all _ (c .before .loop .inv) (omega arith)
 

@@ -1,17 +1,15 @@
-use borrow.Author.Needs.{needs}
+-- `forward_transition::prune` meets its contract.
+-- Assumes nothing.
 use mathlib.Core.Path.{refl}
 use Prim.Native.Nat.{_-_}
 use native.Mathlib.Omega.{arith}
+use borrow.Author.Needs.{needs}
 use lib.ListN.{length}
 use Rattle.store.specs.Layout.{parse}
 use Rattle.forward_transition.specs.Loops.{change, change-done}
 use Rattle.forward_transition.specs.Transitions.{Pruning, prune-next}
 use Rattle.forward_transition.proofs.prune.Statement.{statement}
 use Rattle.forward_transition.proofs.prune.Tie as tie
-use Rattle.forward_transition.proofs.prune.Reads as reads
-use Rattle.forward_transition.proofs.prune.Lts as lts
-use Rattle.forward_transition.proofs.free_if_dead.Reads as free-if-dead-reads
-use Rattle.store.proofs.image.edge_count.Reads as edge-count-reads
 
 abbrev Inv-loop : tie.InvT-loop
 Inv-loop image₀ parent kind count done₀ image done = Pruning parent kind image₀ done image
@@ -19,39 +17,32 @@ Inv-loop image₀ parent kind count done₀ image done = Pruning parent kind ima
 abbrev μ-loop : tie.MeasureT-loop
 μ-loop image₀ parent kind count done₀ image done = length (parse image₀ .edges) - done
 
--- src/lib.rt:104:9
 edge-count-requires : tie.Need-edge-count-requires Inv-loop μ-loop
 edge-count-requires c κs = search needs
 
--- src/lib.rt:106:5
 loop-holds : tie.Need-loop-holds Inv-loop μ-loop
 loop-holds c = change _ _ _ _ _ (c .before .before .before .pre) refl
 
--- src/lib.rt:107:29
 add-free-if-dead : tie.Need-add-free-if-dead Inv-loop μ-loop
 add-free-if-dead c = search needs
 
--- src/lib.rt:107:9
 free-if-dead-requires : tie.Need-free-if-dead-requires Inv-loop μ-loop
 free-if-dead-requires c κs = search needs
 
--- src/lib.rt:108:9
 add-done : tie.Need-add-done Inv-loop μ-loop
 add-done c = search needs
 
--- src/lib.rt:106:5
 loop-less : tie.Need-loop-less Inv-loop μ-loop
 loop-less c = search needs
 
--- src/lib.rt:106:5
 loop-again : tie.Need-loop-again Inv-loop μ-loop
-loop-again c = prune-next _ _ (c .before .before .before .before .before .loop .inv) (omega arith) (c .before .before .free-if-dead .ensures)
+loop-again c =
+    prune-next _ _ (c .before .before .before .before .before .loop .inv) (omega arith)
+    (c .before .before .free-if-dead .ensures)
 
--- src/lib.rt:96:1
 same-length : tie.Need-same-length Inv-loop μ-loop
 same-length c = search needs
 
--- src/lib.rt:96:1
 returns : tie.Need-returns Inv-loop μ-loop
 returns c = change-done _ _ _ _ _ (c .before .loop .inv) (omega arith)
 

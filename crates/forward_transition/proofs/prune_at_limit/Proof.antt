@@ -1,25 +1,21 @@
+-- `forward_transition::prune_at_limit` meets its contract.
+-- Assumes nothing.
 use borrow.Author.Needs.{needs}
 use borrow.Author.Tests.{eq-eqb, ne-eqb}
 use Rattle.store.specs.Image.{unchanged}
 use Rattle.forward_transition.proofs.prune_at_limit.Statement.{statement}
 use Rattle.forward_transition.proofs.prune_at_limit.Tie as tie
-use Rattle.forward_transition.proofs.prune_at_limit.Reads as reads
-use Rattle.forward_transition.proofs.prune_at_limit.Lts as lts
-use Rattle.forward_transition.proofs.prune.Reads as prune-reads
 
--- src/lib.rt:201:9
 prune-requires : tie.Need-prune-requires
 prune-requires c κs = search needs
 
--- src/lib.rt:193:1
 same-length : tie.Need-same-length
 same-length c = search needs
 
--- src/lib.rt:193:1
 returns : tie.Need-returns
-returns c = rw (eq-eqb _ _ (c .before .before .before .before .if1 .taken)) (c .before .before .prune .ensures)
+returns c =
+    rw (eq-eqb _ _ (c .before .before .before .before .if1 .taken)) (c .before .before .prune .ensures)
 
--- src/lib.rt:193:1
 returns-2 : tie.Need-returns-2
 returns-2 c = rw (ne-eqb _ _ (c .if1 .left)) (unchanged (c .before .before .pre))
 

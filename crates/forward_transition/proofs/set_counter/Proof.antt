@@ -1,15 +1,12 @@
-use borrow.Author.Needs.{needs}
+-- `forward_transition::set_counter` meets its contract.
+-- Assumes nothing.
 use borrow.Author.Tests.{eq-eqb, ne-eqb}
 use Rattle.forward_transition.proofs.set_counter.Statement.{statement}
 use Rattle.forward_transition.proofs.set_counter.Tie as tie
-use Rattle.forward_transition.proofs.set_counter.Reads as reads
-use Rattle.forward_transition.proofs.set_counter.Lts as lts
 
--- src/lib.rt:139:1
 returns : tie.Need-returns
 returns c = rw (eq-eqb _ _ (c .if1 .taken))
 
--- src/lib.rt:139:1
 returns-2 : tie.Need-returns-2
 returns-2 c = rw (ne-eqb _ _ (c .if1 .left))
 
