@@ -1,4 +1,4 @@
--- Loops over the records of an area, for any test and any change: what a loop knows with so many records done.
+-- Loops over the records of an area, for any test and any change: what is known with so many records done.
 -- Assumes nothing.
 use mathlib.Core.Bool.{Bool, true, false}
 use mathlib.Core.List.{List, [], _∷_, map}
@@ -59,7 +59,8 @@ module _ {A : Type 0} {test : A → Bool} {xs : List A} {done : ℕ} (d : A) (in
 
   pub count-none : {n : ℕ} → Counting test xs done n → b ≡ false → Counting test xs (done + 1) n
   count-none {n} c fails =
-      rw (add-zero n) at (count-next test c d {one = 0} inside (rw (← at-next xs done d, ← read, ← tested, fails)))
+      rw (add-zero n) at
+      (count-next test c d {one = 0} inside (rw (← at-next xs done d, ← read, ← tested, fails)))
 
 -- ## Changing each record
 
@@ -99,7 +100,8 @@ module _ {A : Type 0} (f : A → A) where
 
     module _ {done : ℕ} {now : List ℕ} (c : Changing done now) where
       pub change-next : {after : List ℕ} → done < length xs
-          → Becomes now after (model (put (changed done xs) (done + 1) (f (at (changed done xs) (done + 1) d))))
+          → Becomes now after
+          (model (put (changed done xs) (done + 1) (f (at (changed done xs) (done + 1) d))))
           → Changing (done + 1) after
       change-next inside turn =
           record {

@@ -86,7 +86,8 @@ module _ (ws : List ℕ) (n kind old : ℕ) where
     where
       go : (b : Bool) → eqb old 255 ≡ b
           → Becomes ws after
-          (putCounter (if b then withEdges (parse ws) (prune n kind (parse ws .edges)) else parse ws) n kind next)
+          (putCounter (if b then withEdges (parse ws) (prune n kind (parse ws .edges)) else parse ws)
+          n kind next)
           → Becomes ws after (if b then pruned (parse ws) n kind else putCounter (parse ws) n kind (old + 1))
       go true is done =
           let old-full = eqb-true old 255 is in

@@ -11,8 +11,12 @@ lowest-free-edge-requires : tie.Need-lowest-free-edge-requires
 lowest-free-edge-requires c κs = search needs
 
 put-edge-requires : tie.Need-put-edge-requires
-put-edge-requires c κs =
-    (c .before .before .before .before .pre .0, rw (c .before .lowest-free-edge .ensures) (lowest-inside freeEdge noEdge (parse (c .before .before .before .before .args .image .now) .edges) (c .before .before .before .before .pre .1)))
+put-edge-requires c κs = (
+  c .before .before .before .before .pre .0,
+  rw (c .before .lowest-free-edge .ensures)
+      (lowest-inside freeEdge noEdge (parse (c .before .before .before .before .args .image .now) .edges)
+      (c .before .before .before .before .pre .1)),
+)
 
 same-length : tie.Need-same-length
 same-length c = search needs

@@ -10,13 +10,20 @@ belongs-requires c κs = search needs
 
 returns : tie.Need-returns
 returns c =
-    rw
-    (← c .before .before .before .before .before .before .belongs .ensures, c .before .before .before .before .before .if1 .taken, eq-eqb _ _ (c .before .before .if2 .taken))
+    rw (
+      ← c .before .before .before .before .before .before .belongs .ensures,
+      c .before .before .before .before .before .if1 .taken,
+      eq-eqb _ _ (c .before .before .if2 .taken),
+    )
 
 returns-2 : tie.Need-returns-2
 returns-2 c =
-    rw
-    (← c .before .before .before .before .belongs .ensures, c .before .before .before .if1 .taken, ne-eqb _ _ (c .if2 .left))
+    rw (
+      ← c .before .before .before .before .belongs .ensures,
+      c .before .before .before .if1 .taken,
+      ne-eqb _ _
+          (c .if2 .left),
+    )
 
 returns-3 : tie.Need-returns-3
 returns-3 c = rw (← c .before .belongs .ensures, c .if1 .left)

@@ -49,9 +49,11 @@ unfolding edgeAt
 loop-again c =
     ⊎-elim
     (λ w. rw (w .1)
-    (count-one noEdge (omega arith) (c .before .before .get-edge .ensures) (c .before .is-dead .ensures) (c .before .before .before .before .loop .inv) (w .0 .taken)))
+    (count-one noEdge (omega arith) (c .before .before .get-edge .ensures) (c .before .is-dead .ensures)
+    (c .before .before .before .before .loop .inv) (w .0 .taken)))
     (λ w. rw (w .1)
-    (count-none noEdge (omega arith) (c .before .before .get-edge .ensures) (c .before .is-dead .ensures) (c .before .before .before .before .loop .inv) (w .0 .left)))
+    (count-none noEdge (omega arith) (c .before .before .get-edge .ensures) (c .before .is-dead .ensures)
+    (c .before .before .before .before .loop .inv) (w .0 .left)))
     (c .if1 .came)
 
 returns : tie.Need-returns Inv-loop μ-loop

@@ -38,14 +38,18 @@ returns : tie.Need-returns Inv-loop μ-loop
 unfolding edgeAt
 returns c =
     found-dead _
-    (hit noEdge (omega arith) (c .before .before .before .before .get-edge .ensures) (c .before .before .before .agree .ensures) (c .before .before .before .before .before .before .loop .inv) (c .before .before .if1 .taken))
+    (hit noEdge (omega arith) (c .before .before .before .before .get-edge .ensures)
+    (c .before .before .before .agree .ensures)
+    (c .before .before .before .before .before .before .loop .inv) (c .before .before .if1 .taken))
     (c .if2 .taken)
 
 returns-2 : tie.Need-returns-2 Inv-loop μ-loop
 unfolding edgeAt
 returns-2 c =
     found-live _
-    (hit noEdge (omega arith) (c .before .before .before .before .get-edge .ensures) (c .before .before .before .agree .ensures) (c .before .before .before .before .before .before .loop .inv) (c .before .before .if1 .taken))
+    (hit noEdge (omega arith) (c .before .before .before .before .get-edge .ensures)
+    (c .before .before .before .agree .ensures)
+    (c .before .before .before .before .before .before .loop .inv) (c .before .before .if1 .taken))
     (c .if2 .left)
 
 add-passed : tie.Need-add-passed Inv-loop μ-loop

@@ -17,8 +17,12 @@ counter-requires c κs = search needs
 cast-result : tie.Need-cast-result
 cast-result c =
     record {
-      fits = omega
-          (arith, c .counter .ensures ∙ ap (λ (s : Shape). counter (c .before .before .before .before .args .kind) (s .counters)) (c .before .before .get-shape .ensures));
+      fits = omega (
+        arith,
+        c .counter .ensures ∙ ap
+            (λ (s : Shape). counter (c .before .before .before .before .args .kind) (s .counters))
+            (c .before .before .get-shape .ensures),
+      );
     }
 
 returns : tie.Need-returns

@@ -19,7 +19,8 @@ returns : tie.Need-returns
 unfolding pruned
 returns c =
     and-then (c .before .before .before .before .before .before .prune .ensures)
-    (rw (c .before .before .before .before .before .before .prune .ensures .parsed) at (c .before .before .put-counter .ensures))
+    (rw (c .before .before .before .before .before .before .prune .ensures .parsed)
+    at (c .before .before .put-counter .ensures))
 
 pub prune-transitions-spec : {M : Type 1} → statement M
 prune-transitions-spec =

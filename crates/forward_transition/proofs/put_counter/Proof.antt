@@ -18,8 +18,10 @@ same-length c = search needs
 
 returns : tie.Need-returns
 returns c =
-    rw
-    (← c .before .before .before .before .before .before .get-shape .ensures, ← c .before .before .before .before .set-counter .ensures)
+    rw (
+      ← c .before .before .before .before .before .before .get-shape .ensures,
+      ← c .before .before .before .before .set-counter .ensures,
+    )
     (c .before .before .put-shape .ensures)
 
 pub put-counter-spec : {M : Type 1} → statement M
