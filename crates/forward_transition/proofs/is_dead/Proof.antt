@@ -1,7 +1,6 @@
 -- `forward_transition::is_dead` meets its contract.
 -- Assumes nothing.
 use borrow.Author.Needs.{needs}
-use borrow.Author.Tests.{eq-eqb, ne-eqb}
 use Rattle.forward_transition.proofs.is_dead.Statement.{statement}
 use Rattle.forward_transition.proofs.is_dead.Tie as tie
 
