@@ -16,7 +16,8 @@ use lib.Seq.{length-take-le, drop-cons, drop-length, drop-drop}
 use Rattle.slot.specs.If.{if_then_else_}
 use Rattle.store.specs.Lists.{at, lowest, keep}
 use Rattle.store.specs.Model.{limitsOf, freeShape, freeTable, freeEdge}
-use Rattle.store.specs.Layout.{rows, readShape, readTable, readEntries, readEdge, tableWidth, total, parse}
+use Rattle.store.specs.Layout.{rows, readShape, readTable, readEntries, readEdge, tableWidth, total}
+use Rattle.store.specs.Layout.{parse}
 use Rattle.store.specs.Layout.{limitsIn, tablesOffset, edgesOffset, tableRows}
 use Rattle.store.specs.ThereAndBack.{limits-parse}
 use Rattle.store.specs.Rows.{mul-suc-left}
@@ -143,7 +144,13 @@ pub record Listed {A : Type 0} (isFree : A → Bool) (ws : List ℕ) (o w n : �
   pub records : xs ≡ map read (rows w n (drop o ws))
   pub same : (row : List ℕ) → unused row ≡ isFree (read row)
 
-module _ {A : Type 0} {isFree : A → Bool} {ws : List ℕ} {o w n : ℕ} {xs : List A} (l : Listed isFree ws o w n xs)
+module _
+    {A : Type 0}
+    {isFree : A → Bool}
+    {ws : List ℕ}
+    {o w n : ℕ}
+    {xs : List A}
+    (l : Listed isFree ws o w n xs)
   where
     lowest-read : (start : ℕ) (rs : List (List ℕ))
         → lowest unused start rs ≡ lowest isFree start (map (l .read) rs)
@@ -159,13 +166,16 @@ module _ {A : Type 0} {isFree : A → Bool} {ws : List ℕ} {o w n : ℕ} {xs : 
       where
         go : (b : Bool) → unused r ≡ b → length (keep unused rs) ≡ length (keep isFree (map (l .read) rs))
             → length (if unused r then r ∷ keep unused rs else keep unused rs)
-            ≡ length (if b then l .read r ∷ keep isFree (map (l .read) rs) else keep isFree (map (l .read) rs))
+            ≡ length
+            (if b then l .read r ∷ keep isFree (map (l .read) rs) else keep isFree (map (l .read) rs))
         go true e again = rw e (ap suc again)
         go false e again = rw e again
 
     pub count-listed : {r : ℕ} → r ≡ length (keep unused (rows w n (drop o ws))) → r ≡ length (keep isFree xs)
     count-listed e =
-        e ∙ count-read (rows w n (drop o ws)) ∙ ap (λ (ys : List A). length (keep isFree ys)) (sym (l .records))
+        e
+        ∙ count-read (rows w n (drop o ws))
+        ∙ ap (λ (ys : List A). length (keep isFree ys)) (sym (l .records))
 
 table-unused : (row : List ℕ) → unused row ≡ freeTable (readTable row)
 table-unused row = go (getD row 0 0)
@@ -212,7 +222,12 @@ module _ {ws : List ℕ} (f : Formed ws) where
       let from = start ∙ ap tablesOffset (limits-parse ws) in
       let keys = wide ∙ ap (λ (l : Limits). tableWidth (l .K)) (limits-parse ws) in
       record {
-        area = record { wide = omega arith; few = omega arith; inside = rw (start, wide, e) (omega (arith, long)) };
+        area =
+            record {
+              wide = omega arith;
+              few = omega arith;
+              inside = rw (start, wide, e) (omega (arith, long));
+            };
         read = readTable;
         records = rw (many, from, keys) (tables-read ws);
         same = table-unused;

@@ -74,7 +74,14 @@ spot-inside o w {n} {p} h =
 -- ## A record where it lies
 
 -- The w words from `at` on are x's; with y's in their stead the image lays out `put y`.
-pub record Row {A : Type 0} (lay : A → List ℕ) (w at : ℕ) (ws : List ℕ) (x : A) (put : A → Model) : Type 0 where
+pub record Row
+    {A : Type 0}
+    (lay : A → List ℕ)
+    (w at : ℕ)
+    (ws : List ℕ)
+    (x : A)
+    (put : A → Model)
+    : Type 0 where
   pub inside : at + w ≤ length ws
   pub read : midOf at w ws ≡ lay x
   pub write : (y : A) → length (lay y) ≡ w → Lays (putMid at w ws (lay y)) (put y)
@@ -91,7 +98,8 @@ unfolding words
 around-edges m = rw (append-nil, append-assoc (shapeArea m))
 
 -- One law for the three areas.
-area-row : {A : Type 0} {w : ℕ} {lay : A → List ℕ} {read : List ℕ → A} {good : A → Bool} {tidy : List ℕ → Bool}
+area-row : {A : Type 0} {w : ℕ} {lay : A → List ℕ} {read : List ℕ → A}
+    {good : A → Bool} {tidy : List ℕ → Bool}
     → Written w lay read good tidy
     → (front : List ℕ) (xs : List A) (rest ws : List ℕ) (o n : ℕ) (d : A) (model : A → Model)
     → length front ≡ o
@@ -160,7 +168,8 @@ module _ {ws : List ℕ} {m : Model} (l : Lays ws m) where
   unfolding edgeAt putEdge fits
   edge-row {o} {e} start h =
       rw start
-      (area-row edges-written (header (limitsOf m) ++ (shapeArea m ++ tableArea m)) (m .edges) [] ws (edgesOffset (limitsOf m)) e noEdge (putEdge m e)
+      (area-row edges-written (header (limitsOf m) ++ (shapeArea m ++ tableArea m)) (m .edges) [] ws
+      (edgesOffset (limitsOf m)) e noEdge (putEdge m e)
       (rw (length-append, length-append, shapes-long, tables-long) (omega arith))
       (every-always (m .edges)) (l .laid ∙ around-edges m) h
       (λ y q. record {
@@ -220,15 +229,18 @@ then-sizes a b =
 
 pub put-shape-sizes : (m : Model) (n : ℕ) (s : Shape) → Sizes m (putShape m n s)
 unfolding putShape
-put-shape-sizes m n s = record { shapes = length-put (m .shapes) n s; tables = refl; keys = refl; edges = refl }
+put-shape-sizes m n s =
+    record { shapes = length-put (m .shapes) n s; tables = refl; keys = refl; edges = refl }
 
 pub put-table-sizes : (m : Model) (t : ℕ) (x : Table) → Sizes m (putTable m t x)
 unfolding putTable
-put-table-sizes m t x = record { shapes = refl; tables = length-put (m .tables) t x; keys = refl; edges = refl }
+put-table-sizes m t x =
+    record { shapes = refl; tables = length-put (m .tables) t x; keys = refl; edges = refl }
 
 pub put-edge-sizes : (m : Model) (n : ℕ) (e : Edge) → Sizes m (putEdge m n e)
 unfolding putEdge
-put-edge-sizes m n e = record { shapes = refl; tables = refl; keys = refl; edges = length-put (m .edges) n e }
+put-edge-sizes m n e =
+    record { shapes = refl; tables = refl; keys = refl; edges = length-put (m .edges) n e }
 
 -- The image has become the layout of m.
 pub record Becomes (before after : List ℕ) (m : Model) : Type 0 where

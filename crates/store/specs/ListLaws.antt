@@ -133,7 +133,8 @@ pub any-append : {A : Type 0} (test : A → Bool) (xs ys : List A)
     → any test (xs ++ ys) ≡ (any test xs || any test ys)
 any-append test [] ys = refl
 any-append test (x ∷ xs) ys =
-    ap (λ (b : Bool). test x || b) (any-append test xs ys) ∙ sym (or-assoc (test x) (any test xs) (any test ys))
+    ap (λ (b : Bool). test x || b) (any-append test xs ys)
+    ∙ sym (or-assoc (test x) (any test xs) (any test ys))
 
 pub any-flat : (test : ℕ → Bool) (rs : List (List ℕ)) → any test (flat rs) ≡ any (any test) rs
 unfolding flat
@@ -302,7 +303,8 @@ module _ {A : Type 0} (test : A → Bool) (d : A) (out : test d ≡ false) where
               absurd (omega (arith, any-keep xs (place-any xs (suc k) r), ap length none))
       go false p q again = later (again q)
         where
-          later : (n : ℕ) × (at xs n d ≡ y) × OnlyAt xs n → (n : ℕ) × (at (x ∷ xs) n d ≡ y) × OnlyAt (x ∷ xs) n
+          later : (n : ℕ) × (at xs n d ≡ y) × OnlyAt xs n
+              → (n : ℕ) × (at (x ∷ xs) n d ≡ y) × OnlyAt (x ∷ xs) n
           later (zero, its, o) = not-both (o .passes) out
           later (suc n, its, o) = (suc (suc n), its, record { passes = o .passes; only = others })
             where

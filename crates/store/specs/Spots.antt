@@ -58,7 +58,8 @@ module _
     write-at [] rest k y e h = absurd (not-suc-le-zero h)
     write-at (x ∷ xs) rest zero y e h =
         let p = and-both (good x) e in
-        rw (mul-zero, append-assoc, append-assoc, drop-at (lay x) (flat (map lay xs) ++ rest) w (kind .width x (p .0)))
+        let after = drop-at (lay x) (flat (map lay xs) ++ rest) w (kind .width x (p .0)) in
+        rw (mul-zero, append-assoc, append-assoc, after)
     write-at (x ∷ xs) rest (suc k) y e h =
         let p = and-both (good x) e in
         rw (

@@ -12,14 +12,17 @@ use borrow.Rule.Slice.PartMut.{midOf, putMid, set-mid-at}
 use lib.Dec.{eqb}
 use lib.ListN.{length, getD, set, replicate, length-append, length-set, length-replicate}
 use lib.Seq.{set-append-seam}
-use Rattle.store.specs.Model.{Table, free, used, Model, limitsOf, freeTable, tableAt, putTable, entriesOf, noEntry}
+use Rattle.store.specs.Model.{Table, free, used, Model, limitsOf, freeTable, tableAt, putTable}
+use Rattle.store.specs.Model.{entriesOf, noEntry}
 use Rattle.store.specs.PlaceLaws.{at-put-same, put-again}
 use Rattle.store.specs.ListLaws.{every-always, every-place}
-use Rattle.store.specs.Layout.{flat, entryWords, countWord, tableWidth, tableWords, roomFor, fits, parse}
+use Rattle.store.specs.Layout.{flat, entryWords, countWord, tableWidth, tableWords, roomFor, fits}
+use Rattle.store.specs.Layout.{parse}
 use Rattle.store.specs.Layout.{tablesOffset}
 use Rattle.store.specs.Records.{entries-written, tables-written, zero-table}
 use Rattle.store.specs.Spots.{spot, part-lent, area-read, area-write}
-use Rattle.store.specs.Image.{Lays, Formed, Place, Row, Becomes, table-row, row-put, becomes, put-table-sizes}
+use Rattle.store.specs.Image.{Lays, Formed, Place, Row, Becomes, table-row, row-put, becomes}
+use Rattle.store.specs.Image.{put-table-sizes}
 use Rattle.store.specs.Image.{and-then}
 use Rattle.store.specs.declared.Entry.{Entry}
 
@@ -37,7 +40,8 @@ module _ {ws : List ℕ} {m : Model} (l : Lays ws m) (t : ℕ) where
   pub entries-fit : length (entriesOf (tableAt m t)) ≤ m .K
   unfolding fits tableAt
   entries-fit =
-      leb-true _ (m .K) (every-place free (roomFor (m .K)) (m .tables) (le-leb 0 (m .K) (omega arith)) (l .roomy) t)
+      let none : roomFor (m .K) free ≡ true = le-leb 0 (m .K) (omega arith) in
+      leb-true _ (m .K) (every-place free (roomFor (m .K)) (m .tables) none (l .roomy) t)
 
   pub table-long : length (tableWords (m .K) (tableAt m t)) ≡ tableWidth (m .K)
   table-long = tables-written (m .K) .width (tableAt m t) (le-leb _ (m .K) entries-fit)
@@ -51,7 +55,8 @@ entry-in K t i h e p =
     let es = entriesOf t in
     p
     ∙ rw (e, add-one)
-    (area-read entries-written (countWord t ∷ []) es _ 1 (suc i) noEntry refl (every-always es) (omega arith) h)
+    (area-read entries-written (countWord t ∷ []) es _ 1 (suc i) noEntry refl (every-always es)
+    (omega arith) h)
 
 -- ## Writing
 
@@ -173,12 +178,14 @@ module _
         (rw (last, more) (entry-added (parse ws .K) its x u h)) (rw one-more h)
 
     -- The words of a free table are zero, and so are those of an empty one but for the first.
-    pub started-becomes : tableAt (parse ws) t ≡ free → Becomes ws (set ws a 1) (putTable (parse ws) t (used []))
+    pub started-becomes : tableAt (parse ws) t ≡ free
+        → Becomes ws (set ws a 1) (putTable (parse ws) t (used []))
     unfolding flat
     started-becomes u =
         let words = its-row .read ∙ ap (tableWords (parse ws .K)) u in
         let stored = set-mid-at (spot o w t) w 0 ws 1 (rw words (omega arith)) in
-        let long = tables-written (parse ws .K) .width (used []) (le-leb 0 (parse ws .K) (omega arith)) ∙ sym wide in
+        let fits = le-leb 0 (parse ws .K) (omega arith) in
+        let long = tables-written (parse ws .K) .width (used []) fits ∙ sym wide in
         let all = rw (words, add-zero) at stored in
         becomes f (rw (from, ← all) (its-row .write (used []) long)) (put-table-sizes (parse ws) t (used []))
 
@@ -187,12 +194,14 @@ module _
     cleared-becomes n =
         let long = ap length its-words ∙ table-long f t in
         let words = n ∙ ap (λ (many : ℕ). replicate many 0) long ∙ sym (zero-table (parse ws .K)) in
-        becomes f (row-put its-row free from to words (ap length (zero-table (parse ws .K)) ∙ length-replicate _ 0 ∙ sym wide))
+        let wide-zeros = ap length (zero-table (parse ws .K)) ∙ length-replicate _ 0 ∙ sym wide in
+        becomes f (row-put its-row free from to words wide-zeros)
         (put-table-sizes (parse ws) t free)
 
 -- ## A table put twice
 
-pub table-put : (m : Model) (t : ℕ) (x : Table) → Place (length (m .tables)) t → tableAt (putTable m t x) t ≡ x
+pub table-put : (m : Model) (t : ℕ) (x : Table) → Place (length (m .tables)) t
+    → tableAt (putTable m t x) t ≡ x
 unfolding tableAt putTable
 table-put m t x p = at-put-same (m .tables) t x free (p .low) (p .high)
 

@@ -65,11 +65,12 @@ same-length c = search needs
 
 returns : tie.Need-returns
 returns c =
-    let pre = c .before .before .before .before .before .before .before .before .before .before .before .before .pre in
+    let start = c .before .before .before .before .before .before .before .before .before .before .before .before in
+    let pre = start .pre in
     let tables = c .before .before .before .before .before .tables in
     let table-width = c .before .before .before .before .before .before .before .table-width in
     let row-at = c .before .before .before .before .row-at in
-    let args = c .before .before .before .before .before .before .before .before .before .before .before .before .args in
+    let args = start .args in
     let count-word = c .before .before .before .before .before .before .before .before .before .count-word in
     let edit-table = c .before .before .edit-table in
     set-becomes (pre .0) (pre .1 .0) (tables .ensures) (table-width .ensures) (row-at .ensures) refl

@@ -14,7 +14,8 @@ use Rattle.store.proofs.rows.count_unused.Statement.{statement}
 use Rattle.store.proofs.rows.count_unused.Tie as tie
 
 abbrev Inv-loop : tie.InvT-loop
-Inv-loop image area width count free₀ done₀ free done = Counting unused (rows width count (drop area image)) done free
+Inv-loop image area width count free₀ done₀ free done =
+    Counting unused (rows width count (drop area image)) done free
 
 abbrev μ-loop : tie.MeasureT-loop
 μ-loop image area width count free₀ done₀ free done = count - done
