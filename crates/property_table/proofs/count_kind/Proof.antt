@@ -1,0 +1,61 @@
+-- `property_table::count_kind` meets its contract. Assumes nothing.
+use mathlib.Core.Path.{_≡_, refl}
+use Prim.Native.Nat.{_+_, _-_, _≤_}
+use native.Mathlib.Omega.{arith}
+use lib.ListN.{length, take}
+use borrow.Author.Needs.{needs}
+use Rattle.property_table.specs.Copies.{entriesIn, entries-few}
+use Rattle.property_table.specs.KeyLists.{listed, listed-below, counted-more}
+use Rattle.property_table.proofs.count_kind.Statement.{statement}
+use Rattle.property_table.proofs.count_kind.Tie as tie
+
+abbrev Inv-loop : tie.InvT-loop
+Inv-loop image table count kind n₀ i₀ n i = (i ≤ count) × (n ≡ length (listed kind (take i (entriesIn image table))))
+
+abbrev μ-loop : tie.MeasureT-loop
+μ-loop image table count kind n₀ i₀ n i = count - i
+
+loop-holds : tie.Need-loop-holds Inv-loop μ-loop
+loop-holds c = (omega arith, refl)
+
+get-entry-requires : tie.Need-get-entry-requires Inv-loop μ-loop
+get-entry-requires c κs = search needs
+
+of-kind-requires : tie.Need-of-kind-requires Inv-loop μ-loop
+of-kind-requires c κs = search needs
+
+add-n : tie.Need-add-n Inv-loop μ-loop
+add-n c =
+    let inside = c .before .before .before .before .before .pre .1 .1 in
+    let test = c .before .before .loop-test .taken in
+    let more = counted-more (c .before .before .before .before .before .args .kind) (c .before .before .before .loop .i) (entriesIn (c .before .before .before .before .before .args .image .now) (c .before .before .before .before .before .args .table)) (omega arith) (c .before .before .before .loop .inv .1) (c .before .get-entry .ensures)
+    (c .of-kind .ensures) in
+    let below = listed-below (c .before .before .before .before .before .args .kind) (entriesIn (c .before .before .before .before .before .args .image .now) (c .before .before .before .before .before .args .table)) (c .before .before .before .loop .i + 1) in
+    let few = entries-few (c .before .before .before .before .before .pre .0) (c .before .before .before .before .before .args .table) in
+    search needs
+
+add-i : tie.Need-add-i Inv-loop μ-loop
+add-i c = search needs
+
+loop-less : tie.Need-loop-less Inv-loop μ-loop
+loop-less c = search needs
+
+loop-again : tie.Need-loop-again Inv-loop μ-loop
+loop-again c =
+    let inside = c .before .before .before .before .before .pre .1 .1 in
+    let test = c .before .before .loop-test .taken in (
+      omega arith,
+      counted-more (c .before .before .before .before .before .args .kind) (c .before .before .before .loop .i) (entriesIn (c .before .before .before .before .before .args .image .now) (c .before .before .before .before .before .args .table)) (omega arith) (c .before .before .before .loop .inv .1) (c .before .get-entry .ensures) (c .of-kind .ensures),
+    )
+
+returns : tie.Need-returns Inv-loop μ-loop
+returns c =
+    let within = c .before .loop .inv .0 in
+    let test = c .loop-test .left in
+    let all : c .before .before .before .args .count ≡ c .before .loop .i = omega arith in
+    rw all (c .before .loop .inv .1)
+
+pub count-kind-spec : {M : Type 1} → statement M
+count-kind-spec =
+    tie.close
+    (tie.spec Inv-loop μ-loop loop-holds get-entry-requires of-kind-requires add-n add-i loop-less loop-again returns)

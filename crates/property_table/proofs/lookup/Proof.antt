@@ -1,0 +1,53 @@
+-- `property_table::lookup` meets its contract. Assumes nothing.
+use borrow.Author.Needs.{needs}
+use Prim.Native.Nat.{_-_}
+use Rattle.property_table.specs.Slotted.{byte-at}
+use Rattle.property_table.specs.Lookup.{Looking, look, hit, miss, nowhere}
+use Rattle.property_table.specs.Copies.{entriesIn}
+use Rattle.property_table.proofs.lookup.Statement.{statement}
+use Rattle.property_table.proofs.lookup.Tie as tie
+
+abbrev Inv-loop : tie.InvT-loop
+Inv-loop image table count key i₀ i = Looking key count (entriesIn image table) i
+
+abbrev μ-loop : tie.MeasureT-loop
+μ-loop image table count key i₀ i = count - i
+
+loop-holds : tie.Need-loop-holds Inv-loop μ-loop
+loop-holds c = look
+
+get-entry-requires : tie.Need-get-entry-requires Inv-loop μ-loop
+get-entry-requires c κs = search needs
+
+slot-in-requires : tie.Need-slot-in-requires Inv-loop μ-loop
+slot-in-requires c κs = rw (c .before .before .get-entry .ensures) (byte-at (c .before .before .before .before .before .before .pre .1 .1 .1) _)
+
+returns : tie.Need-returns Inv-loop μ-loop
+returns c = hit (c .before .before .before .before .before .loop .inv) (c .before .before .before .before .before .before .before .pre .1 .1 .0) (c .before .before .before .before .loop-test .taken) (c .before .before .before .get-entry .ensures) (c .before .if1 .taken) (c .slot-in .ensures)
+
+add-at : tie.Need-add-at Inv-loop μ-loop
+add-at c = search needs
+
+loop-less : tie.Need-loop-less Inv-loop μ-loop
+loop-less c = search needs
+
+loop-again : tie.Need-loop-again Inv-loop μ-loop
+loop-again c = miss (c .before .before .before .before .loop .inv) (c .before .before .before .before .before .before .pre .1 .1 .0) (c .before .before .before .loop-test .taken) (c .before .before .get-entry .ensures) (c .if1 .left)
+
+returns-2 : tie.Need-returns-2 Inv-loop μ-loop
+returns-2 c = nowhere (c .before .loop .inv) (c .before .before .before .pre .1 .1 .0) (c .loop-test .left)
+
+pub lookup-spec : {M : Type 1} → statement M
+lookup-spec =
+    tie.close
+    (tie.spec
+    Inv-loop
+    μ-loop
+    loop-holds
+    get-entry-requires
+    slot-in-requires
+    returns
+    add-at
+    loop-less
+    loop-again
+    returns-2)

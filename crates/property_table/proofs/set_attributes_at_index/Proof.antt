@@ -1,0 +1,25 @@
+-- `property_table::set_attributes_at_index` meets its contract. Assumes nothing.
+use borrow.Author.Needs.{needs}
+use Rattle.property_table.specs.Copies.{entriesIn}
+use Rattle.property_table.specs.OneKey.{set-configured}
+use Rattle.property_table.proofs.set_attributes_at_index.Statement.{statement}
+use Rattle.property_table.proofs.set_attributes_at_index.Tie as tie
+
+get-entry-requires : tie.Need-get-entry-requires
+get-entry-requires c κs = (c .before .before .pre .0, (c .before .before .pre .1 .0, c .before .before .pre .1 .1 .0))
+
+cast-t12 : tie.Need-cast-t12
+cast-t12 c = search needs
+
+set-entry-requires : tie.Need-set-entry-requires
+set-entry-requires c κs = (c .before .before .before .before .before .before .pre .0, (c .before .before .before .before .before .before .pre .1 .0, c .before .before .before .before .before .before .pre .1 .1 .0))
+
+same-length : tie.Need-same-length
+same-length c = c .before .before .set-entry .ensures .long
+
+returns : tie.Need-returns
+returns c = set-configured (entriesIn (c .before .before .before .before .before .before .before .before .before .args .image .now) (c .before .before .before .before .before .before .before .before .before .args .table)) (c .before .before .before .before .before .before .before .before .before .args .position .0) (c .before .before .before .before .before .before .before .before .before .pre .1 .1 .1) (c .before .before .before .before .before .before .before .before .before .pre .1 .1 .0) _ _ _ (c .before .before .before .before .before .before .get-entry .ensures) (c .before .before .set-entry .ensures)
+
+pub set-attributes-at-index-spec : {M : Type 1} → statement M
+set-attributes-at-index-spec =
+    tie.close (tie.spec get-entry-requires cast-t12 set-entry-requires same-length returns)

@@ -1,0 +1,5 @@
+pub mod Slotted
+pub mod Lookup
+pub mod Copies
+pub mod OneKey
+pub mod KeyLists
