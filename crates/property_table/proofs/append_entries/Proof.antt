@@ -16,13 +16,24 @@ loop-holds : tie.Need-loop-holds Inv-loop μ-loop
 loop-holds c = copy-start (c .before .pre .0) (c .before .pre .1)
 
 get-entry-requires : tie.Need-get-entry-requires Inv-loop μ-loop
-get-entry-requires c κs = (c .before .before .loop .inv .so-far .formed, (c .before .before .loop .inv .ready .tables .source, search needs))
+get-entry-requires c κs =
+    let loop = c .before .before .loop in
+    (loop .inv .so-far .formed, (loop .inv .ready .tables .source, search needs))
 
 cast-t15 : tie.Need-cast-t15 Inv-loop μ-loop
-cast-t15 c = let low : c .before .before .get-entry .result .attributes ≤ 31 = rw (c .before .before .get-entry .ensures) (byte-at (c .before .before .before .before .before .loop .inv .ready .tables .slotted) _) in search needs
+cast-t15 c =
+    let get-entry = c .before .before .get-entry in
+    let loop = c .before .before .before .before .before .loop in
+    let low : get-entry .result .attributes ≤ 31 =
+    rw (get-entry .ensures) (byte-at (loop .inv .ready .tables .slotted) _) in
+    search needs
 
 append-requires : tie.Need-append-requires Inv-loop μ-loop
-append-requires c κs = (c .before .before .before .before .before .loop .inv .so-far .formed, (c .before .before .before .before .before .loop .inv .ready .tables .target, (c .before .before .before .before .before .loop .inv .ready .inUse, (search needs, c .before .before .before .before .before .loop .inv .ready .slotted))))
+append-requires c κs =
+    let loop = c .before .before .before .before .before .loop in (
+      loop .inv .so-far .formed,
+      (loop .inv .ready .tables .target, (loop .inv .ready .inUse, (search needs, loop .inv .ready .slotted))),
+    )
 
 add-i : tie.Need-add-i Inv-loop μ-loop
 add-i c = search needs
@@ -31,7 +42,12 @@ loop-less : tie.Need-loop-less Inv-loop μ-loop
 loop-less c = search needs
 
 loop-again : tie.Need-loop-again Inv-loop μ-loop
-loop-again c = copy-turn (c .before .before .before .before .before .before .before .before .loop .inv) (c .before .before .before .before .before .before .before .loop-test .taken) (rw (← (c .before .before .before .before .before .get-entry .ensures)) (c .before .before .append .ensures))
+loop-again c =
+    let loop = c .before .before .before .before .before .before .before .before .loop in
+    let loop-test = c .before .before .before .before .before .before .before .loop-test in
+    let get-entry = c .before .before .before .before .before .get-entry in
+    let append = c .before .before .append in
+    copy-turn (loop .inv) (loop-test .taken) (rw (← (get-entry .ensures)) (append .ensures))
 
 same-length : tie.Need-same-length Inv-loop μ-loop
 same-length c = c .before .loop .inv .so-far .long

@@ -16,63 +16,91 @@ entry-count-requires : tie.Need-entry-count-requires
 entry-count-requires c κs = (c .before .before .pre .0, c .before .before .pre .1 .0 .source)
 
 get-entry-requires : tie.Need-get-entry-requires
-get-entry-requires c κs = (c .before .before .before .before .pre .0, (c .before .before .before .before .pre .1 .0 .source, c .before .before .before .before .pre .1 .1 .1 .0))
+get-entry-requires c κs =
+    let pre = c .before .before .before .before .pre in
+    (pre .0, (pre .1 .0 .source, pre .1 .1 .1 .0))
 
 copy-entries-requires : tie.Need-copy-entries-requires
-copy-entries-requires c κs = (c .before .before .before .before .before .before .pre .0, (c .before .before .before .before .before .before .pre .1 .0, (c .before .before .before .before .before .before .pre .1 .1 .0, omega (arith, c .before .before .before .before .before .before .pre .1 .1 .1 .0))))
+copy-entries-requires c κs =
+    let pre = c .before .before .before .before .before .before .pre in
+    (pre .0, (pre .1 .0, (pre .1 .1 .0, omega (arith, pre .1 .1 .1 .0))))
 
 append-requires : tie.Need-append-requires
 append-requires c κs =
-    let es = entriesIn (c .before .before .before .before .before .before .before .before .before .before .args .image .now) (c .before .before .before .before .before .before .before .before .before .before .args .from) in
-    let p = c .before .before .before .before .before .before .before .before .before .before .args .position .0 in
-    let inside = c .before .before .before .before .before .before .before .before .before .before .pre .1 .1 .1 .0 in
-    let count = c .before .before .before .before .before .before .before .entry-count .ensures in
+    let args = c .before .before .before .before .before .before .before .before .before .before .args in
+    let pre = c .before .before .before .before .before .before .before .before .before .before .pre in
+    let entry-count = c .before .before .before .before .before .before .before .entry-count in
+    let copy-entries = c .before .before .before .copy-entries in
+    let es = entriesIn (args .image .now) (args .from) in
+    let p = args .position .0 in
+    let inside = pre .1 .1 .1 .0 in
+    let count = entry-count .ensures in
     let few = take-few p es (omega arith) in
-    let first = slotted-take p (c .before .before .before .before .before .before .before .before .before .before .pre .1 .0 .slotted) in
-    let ready = rest-copyable (c .before .before .before .before .before .before .before .before .before .before .pre .1 .0) (take p es) (c .before .before .before .copy-entries .ensures) (c .before .before .before .before .before .before .before .before .before .before .pre .0) first p
-    (c .before .before .before .before .before .before .before .entry-count .result) (omega arith) count few in
-    let room = ready .room in (
-      c .before .before .before .copy-entries .ensures .formed,
-      (ready .tables .target, (ready .inUse, (omega arith, ready .slotted))),
-    )
+    let first = slotted-take p (pre .1 .0 .slotted) in
+    let ready =
+    rest-copyable (pre .1 .0) (take p es) (copy-entries .ensures) (pre .0) first p
+    (entry-count .result) (omega arith) count few in
+    let room = ready .room in
+    (copy-entries .ensures .formed, (ready .tables .target, (ready .inUse, (omega arith, ready .slotted))))
 
 add-append-entries : tie.Need-add-append-entries
 add-append-entries c = search needs
 
 append-entries-requires : tie.Need-append-entries-requires
 append-entries-requires c κs =
-    let es = entriesIn (c .before .before .before .before .before .before .before .before .before .before .before .before .before .before .before .args .image .now) (c .before .before .before .before .before .before .before .before .before .before .before .before .before .before .before .args .from) in
-    let p = c .before .before .before .before .before .before .before .before .before .before .before .before .before .before .before .args .position .0 in
-    let inside = c .before .before .before .before .before .before .before .before .before .before .before .before .before .before .before .pre .1 .1 .1 .0 in
-    let count = c .before .before .before .before .before .before .before .before .before .before .before .before .entry-count .ensures in
-    let k = c .before .before .before .before .before .before .before .before .before .before .get-entry .result .key in
-    let a = c .before .before .before .before .before .before .before .before .before .before .before .before .before .before .before .args .attributes .0 in
-    let both = c .before .before .before .before .before .before .before .before .before .before .before .before .before .before .before .pre .1 .0 in
-    let grown = appended-after both (take p es) (c .before .before .before .before .before .before .before .before .copy-entries .ensures) k a (c .before .before .before .before .append .ensures) in
+    let start = c .before .before .before .before .before .before .before .before .before .before .before .before .before .before .before in
+    let args = start .args in
+    let pre = start .pre in
+    let entry-count = c .before .before .before .before .before .before .before .before .before .before .before .before .entry-count in
+    let get-entry = c .before .before .before .before .before .before .before .before .before .before .get-entry in
+    let copy-entries = c .before .before .before .before .before .before .before .before .copy-entries in
+    let append = c .before .before .before .before .append in
+    let es = entriesIn (args .image .now) (args .from) in
+    let p = args .position .0 in
+    let inside = pre .1 .1 .1 .0 in
+    let count = entry-count .ensures in
+    let k = get-entry .result .key in
+    let a = args .attributes .0 in
+    let both = pre .1 .0 in
+    let grown = appended-after both (take p es) (copy-entries .ensures) k a (append .ensures) in
     let few = take-few p es (omega arith) in
-    let slots = slotted-appended k a (slotted-take p (both .slotted)) (c .before .before .before .before .before .before .before .before .before .before .before .before .before .before .before .pre .1 .1 .1 .1 .1) in (
+    let slots = slotted-appended k a (slotted-take p (both .slotted)) (pre .1 .1 .1 .1 .1) in (
       grown .formed,
-      rest-copyable both (appended (take p es) k a) grown (c .before .before .before .before .before .before .before .before .before .before .before .before .before .before .before .pre .0) slots (p + 1)
-          (c .before .before .before .before .before .before .before .before .before .before .before .before .entry-count .result) (omega arith) count (grown-few (take p es) k a few),
+      rest-copyable both (appended (take p es) k a) grown (pre .0) slots (p + 1)
+          (entry-count .result) (omega arith) count (grown-few (take p es) k a few),
     )
 
 same-length : tie.Need-same-length
-same-length c = c .before .before .append-entries .ensures .long ∙ c .before .before .before .before .before .before .before .append .ensures .long ∙ c .before .before .before .before .before .before .before .before .before .before .before .copy-entries .ensures .long
+same-length c =
+    let append-entries = c .before .before .append-entries in
+    let append = c .before .before .before .before .before .before .before .append in
+    let copy-entries = c .before .before .before .before .before .before .before .before .before .before .before .copy-entries in
+    append-entries .ensures .long ∙ append .ensures .long ∙ copy-entries .ensures .long
 
 returns : tie.Need-returns
 returns c =
-    let es = entriesIn (c .before .before .before .before .before .before .before .before .before .before .before .before .before .before .before .before .before .before .args .image .now) (c .before .before .before .before .before .before .before .before .before .before .before .before .before .before .before .before .before .before .args .from) in
-    let p = c .before .before .before .before .before .before .before .before .before .before .before .before .before .before .before .before .before .before .args .position .0 in
-    let inside = c .before .before .before .before .before .before .before .before .before .before .before .before .before .before .before .before .before .before .pre .1 .1 .1 .0 in
-    let count = c .before .before .before .before .before .before .before .before .before .before .before .before .before .before .before .entry-count .ensures in
-    let k = c .before .before .before .before .before .before .before .before .before .before .before .before .before .get-entry .result .key in
-    let a = c .before .before .before .before .before .before .before .before .before .before .before .before .before .before .before .before .before .before .args .attributes .0 in
-    let both = c .before .before .before .before .before .before .before .before .before .before .before .before .before .before .before .before .before .before .pre .1 .0 in
-    let grown = appended-after both (take p es) (c .before .before .before .before .before .before .before .before .before .before .before .copy-entries .ensures) k a (c .before .before .before .before .before .before .before .append .ensures) in
-    let all = copied-changed es p (c .before .before .before .before .before .before .before .before .before .before .before .before .before .before .before .before .before .before .pre .1 .1 .1 .1 .0) inside a (both .slotted) (c .before .before .before .before .before .before .before .before .before .before .before .before .before .before .before .entry-count .result) count in
-    let done = copied-after both (appended (take p es) k a) grown (p + 1) (c .before .before .before .before .before .before .before .before .before .before .before .before .before .before .before .entry-count .result)
-    (c .before .before .append-entries .ensures) in
-    rw (c .before .before .before .before .before .before .before .before .before .before .before .before .before .get-entry .ensures, all) at done
+    let start = c .before .before .before .before .before .before .before .before .before .before .before .before .before .before .before .before .before .before in
+    let args = start .args in
+    let pre = start .pre in
+    let entry-count = c .before .before .before .before .before .before .before .before .before .before .before .before .before .before .before .entry-count in
+    let get-entry = c .before .before .before .before .before .before .before .before .before .before .before .before .before .get-entry in
+    let copy-entries = c .before .before .before .before .before .before .before .before .before .before .before .copy-entries in
+    let append = c .before .before .before .before .before .before .before .append in
+    let append-entries = c .before .before .append-entries in
+    let es = entriesIn (args .image .now) (args .from) in
+    let p = args .position .0 in
+    let inside = pre .1 .1 .1 .0 in
+    let count = entry-count .ensures in
+    let k = get-entry .result .key in
+    let a = args .attributes .0 in
+    let both = pre .1 .0 in
+    let grown = appended-after both (take p es) (copy-entries .ensures) k a (append .ensures) in
+    let all =
+    copied-changed es p (pre .1 .1 .1 .1 .0) inside a (both .slotted) (entry-count .result) count in
+    let done =
+    copied-after both (appended (take p es) k a) grown (p + 1) (entry-count .result)
+    (append-entries .ensures) in
+    rw (get-entry .ensures, all) at done
 
 pub copy-changed-spec : {M : Type 1} → statement M
 copy-changed-spec =

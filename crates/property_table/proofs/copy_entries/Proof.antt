@@ -7,21 +7,35 @@ use Rattle.property_table.proofs.copy_entries.Statement.{statement}
 use Rattle.property_table.proofs.copy_entries.Tie as tie
 
 start-table-requires : tie.Need-start-table-requires
-start-table-requires c κs = (c .before .before .pre .0, (c .before .before .pre .1 .0 .target, c .before .before .pre .1 .1 .0))
+start-table-requires c κs =
+    let pre = c .before .before .pre in
+    (pre .0, (pre .1 .0 .target, pre .1 .1 .0))
 
 append-entries-requires : tie.Need-append-entries-requires
 append-entries-requires c κs =
-    let fit = entries-fit (c .before .before .before .before .before .before .pre .0) (c .before .before .before .before .before .before .args .from) in
-    let few = c .before .before .before .before .before .before .pre .1 .1 .1 in (
-      c .before .before .before .start-table .ensures .formed,
-      copyable-after (c .before .before .before .before .before .before .pre .1 .0) [] (c .before .before .before .start-table .ensures) none-slotted (omega arith) few (omega arith),
+    let pre = c .before .before .before .before .before .before .pre in
+    let args = c .before .before .before .before .before .before .args in
+    let start-table = c .before .before .before .start-table in
+    let fit = entries-fit (pre .0) (args .from) in
+    let few = pre .1 .1 .1 in (
+      start-table .ensures .formed,
+      copyable-after (pre .1 .0) [] (start-table .ensures) none-slotted
+          (omega arith) few (omega arith),
     )
 
 same-length : tie.Need-same-length
-same-length c = c .before .before .append-entries .ensures .long ∙ c .before .before .before .before .before .before .start-table .ensures .long
+same-length c =
+    let append-entries = c .before .before .append-entries in
+    let start-table = c .before .before .before .before .before .before .start-table in
+    append-entries .ensures .long ∙ start-table .ensures .long
 
 returns : tie.Need-returns
-returns c = copied-first (c .before .before .before .before .before .before .before .before .before .pre .1 .0) (c .before .before .before .before .before .before .start-table .ensures) (c .before .before .before .before .before .before .before .before .before .args .count) (c .before .before .append-entries .ensures)
+returns c =
+    let pre = c .before .before .before .before .before .before .before .before .before .pre in
+    let start-table = c .before .before .before .before .before .before .start-table in
+    let args = c .before .before .before .before .before .before .before .before .before .args in
+    let append-entries = c .before .before .append-entries in
+    copied-first (pre .1 .0) (start-table .ensures) (args .count) (append-entries .ensures)
 
 pub copy-entries-spec : {M : Type 1} → statement M
 copy-entries-spec =

@@ -14,27 +14,48 @@ entry-count-requires : tie.Need-entry-count-requires
 entry-count-requires c κs = (c .before .before .pre .0, c .before .before .pre .1 .0 .source)
 
 copy-entries-requires : tie.Need-copy-entries-requires
-copy-entries-requires c κs = (c .before .before .before .before .pre .0, (c .before .before .before .before .pre .1 .0, (c .before .before .before .before .pre .1 .1 .0, omega (arith, c .before .before .before .before .pre .1 .1 .1 .0))))
+copy-entries-requires c κs =
+    let pre = c .before .before .before .before .pre in
+    (pre .0, (pre .1 .0, (pre .1 .1 .0, omega (arith, pre .1 .1 .1 .0))))
 
 add-append-entries : tie.Need-add-append-entries
 add-append-entries c = search needs
 
 append-entries-requires : tie.Need-append-entries-requires
 append-entries-requires c κs =
-    let inside = c .before .before .before .before .before .before .before .before .before .pre .1 .1 .1 .0 in
-    let count = c .before .before .before .before .before .before .entry-count .ensures in
-    let few = take-few (c .before .before .before .before .before .before .before .before .before .args .position .0) (entriesIn (c .before .before .before .before .before .before .before .before .before .args .image .now) (c .before .before .before .before .before .before .before .before .before .args .from)) (omega arith) in (
-      c .before .before .before .before .copy-entries .ensures .formed,
-      rest-copyable (c .before .before .before .before .before .before .before .before .before .pre .1 .0) (take (c .before .before .before .before .before .before .before .before .before .args .position .0) (entriesIn (c .before .before .before .before .before .before .before .before .before .args .image .now) (c .before .before .before .before .before .before .before .before .before .args .from))) (c .before .before .before .before .copy-entries .ensures) (c .before .before .before .before .before .before .before .before .before .pre .0)
-          (slotted-take (c .before .before .before .before .before .before .before .before .before .args .position .0) (c .before .before .before .before .before .before .before .before .before .pre .1 .0 .slotted)) (c .before .before .before .before .before .before .before .before .before .args .position .0 + 1) (c .before .before .before .before .before .before .entry-count .result)
+    let pre = c .before .before .before .before .before .before .before .before .before .pre in
+    let entry-count = c .before .before .before .before .before .before .entry-count in
+    let args = c .before .before .before .before .before .before .before .before .before .args in
+    let copy-entries = c .before .before .before .before .copy-entries in
+    let inside = pre .1 .1 .1 .0 in
+    let count = entry-count .ensures in
+    let few = take-few (args .position .0) (entriesIn (args .image .now) (args .from)) (omega arith) in (
+      copy-entries .ensures .formed,
+      rest-copyable (pre .1 .0)
+          (take (args .position .0) (entriesIn (args .image .now) (args .from))) (copy-entries .ensures) (pre .0)
+          (slotted-take (args .position .0) (pre .1 .0 .slotted)) (args .position .0 + 1) (entry-count .result)
           (omega arith) count (omega arith),
     )
 
 same-length : tie.Need-same-length
-same-length c = c .before .before .append-entries .ensures .long ∙ c .before .before .before .before .before .before .before .copy-entries .ensures .long
+same-length c =
+    let append-entries = c .before .before .append-entries in
+    let copy-entries = c .before .before .before .before .before .before .before .copy-entries in
+    append-entries .ensures .long ∙ copy-entries .ensures .long
 
 returns : tie.Need-returns
-returns c = rw (copied-without (entriesIn (c .before .before .before .before .before .before .before .before .before .before .before .before .args .image .now) (c .before .before .before .before .before .before .before .before .before .before .before .before .args .from)) (c .before .before .before .before .before .before .before .before .before .before .before .before .args .position .0) (c .before .before .before .before .before .before .before .before .before .before .before .before .pre .1 .1 .1 .1) (c .before .before .before .before .before .before .before .before .before .before .before .before .pre .1 .1 .1 .0) (c .before .before .before .before .before .before .before .before .before .before .before .before .pre .1 .0 .slotted) (c .before .before .before .before .before .before .before .before .before .entry-count .result) (c .before .before .before .before .before .before .before .before .before .entry-count .ensures)) at (copied-after (c .before .before .before .before .before .before .before .before .before .before .before .before .pre .1 .0) (take (c .before .before .before .before .before .before .before .before .before .before .before .before .args .position .0) (entriesIn (c .before .before .before .before .before .before .before .before .before .before .before .before .args .image .now) (c .before .before .before .before .before .before .before .before .before .before .before .before .args .from))) (c .before .before .before .before .before .before .before .copy-entries .ensures) (c .before .before .before .before .before .before .before .before .before .before .before .before .args .position .0 + 1) (c .before .before .before .before .before .before .before .before .before .entry-count .result) (c .before .before .append-entries .ensures))
+returns c =
+    let start = c .before .before .before .before .before .before .before .before .before .before .before .before in
+    let args = start .args in
+    let pre = start .pre in
+    let entry-count = c .before .before .before .before .before .before .before .before .before .entry-count in
+    let copy-entries = c .before .before .before .before .before .before .before .copy-entries in
+    let append-entries = c .before .before .append-entries in
+    rw
+    (copied-without (entriesIn (args .image .now) (args .from)) (args .position .0) (pre .1 .1 .1 .1)
+    (pre .1 .1 .1 .0) (pre .1 .0 .slotted) (entry-count .result) (entry-count .ensures)) at
+    (copied-after (pre .1 .0) (take (args .position .0) (entriesIn (args .image .now) (args .from)))
+    (copy-entries .ensures) (args .position .0 + 1) (entry-count .result) (append-entries .ensures))
 
 pub copy-without-spec : {M : Type 1} → statement M
 copy-without-spec =

@@ -26,12 +26,19 @@ of-kind-requires c κs = search needs
 
 add-n : tie.Need-add-n Inv-loop μ-loop
 add-n c =
-    let inside = c .before .before .before .before .before .pre .1 .1 in
-    let test = c .before .before .loop-test .taken in
-    let more = counted-more (c .before .before .before .before .before .args .kind) (c .before .before .before .loop .i) (entriesIn (c .before .before .before .before .before .args .image .now) (c .before .before .before .before .before .args .table)) (omega arith) (c .before .before .before .loop .inv .1) (c .before .get-entry .ensures)
-    (c .of-kind .ensures) in
-    let below = listed-below (c .before .before .before .before .before .args .kind) (entriesIn (c .before .before .before .before .before .args .image .now) (c .before .before .before .before .before .args .table)) (c .before .before .before .loop .i + 1) in
-    let few = entries-few (c .before .before .before .before .before .pre .0) (c .before .before .before .before .before .args .table) in
+    let pre = c .before .before .before .before .before .pre in
+    let loop-test = c .before .before .loop-test in
+    let args = c .before .before .before .before .before .args in
+    let loop = c .before .before .before .loop in
+    let get-entry = c .before .get-entry in
+    let of-kind = c .of-kind in
+    let inside = pre .1 .1 in
+    let test = loop-test .taken in
+    let more =
+    counted-more (args .kind) (loop .i) (entriesIn (args .image .now) (args .table)) (omega arith)
+    (loop .inv .1) (get-entry .ensures) (of-kind .ensures) in
+    let below = listed-below (args .kind) (entriesIn (args .image .now) (args .table)) (loop .i + 1) in
+    let few = entries-few (pre .0) (args .table) in
     search needs
 
 add-i : tie.Need-add-i Inv-loop μ-loop
@@ -42,10 +49,17 @@ loop-less c = search needs
 
 loop-again : tie.Need-loop-again Inv-loop μ-loop
 loop-again c =
-    let inside = c .before .before .before .before .before .pre .1 .1 in
-    let test = c .before .before .loop-test .taken in (
+    let pre = c .before .before .before .before .before .pre in
+    let loop-test = c .before .before .loop-test in
+    let args = c .before .before .before .before .before .args in
+    let loop = c .before .before .before .loop in
+    let get-entry = c .before .get-entry in
+    let of-kind = c .of-kind in
+    let inside = pre .1 .1 in
+    let test = loop-test .taken in (
       omega arith,
-      counted-more (c .before .before .before .before .before .args .kind) (c .before .before .before .loop .i) (entriesIn (c .before .before .before .before .before .args .image .now) (c .before .before .before .before .before .args .table)) (omega arith) (c .before .before .before .loop .inv .1) (c .before .get-entry .ensures) (c .of-kind .ensures),
+      counted-more (args .kind) (loop .i) (entriesIn (args .image .now) (args .table))
+          (omega arith) (loop .inv .1) (get-entry .ensures) (of-kind .ensures),
     )
 
 returns : tie.Need-returns Inv-loop μ-loop

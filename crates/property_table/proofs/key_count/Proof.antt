@@ -15,13 +15,22 @@ count-kind-requires-2 c κs = search needs
 
 add-result : tie.Need-add-result
 add-result c =
-    let strings = listed-below 0 (entriesIn (c .before .before .before .args .image .now) (c .before .before .before .args .table)) (c .before .before .before .args .count) in
-    let symbols = listed-below 1 (entriesIn (c .before .before .before .args .image .now) (c .before .before .before .args .table)) (c .before .before .before .args .count) in
-    let few = entries-few (c .before .before .before .pre .0) (c .before .before .before .args .table) in
+    let args = c .before .before .before .args in
+    let pre = c .before .before .before .pre in
+    let strings = listed-below 0 (entriesIn (args .image .now) (args .table)) (args .count) in
+    let symbols = listed-below 1 (entriesIn (args .image .now) (args .table)) (args .count) in
+    let few = entries-few (pre .0) (args .table) in
     search needs
 
 returns : tie.Need-returns
-returns c = rw (c .before .count-kind .ensures, c .count-kind2 .ensures) (sym (length-append (listed 0 (take (c .before .before .before .args .count) (entriesIn (c .before .before .before .args .image .now) (c .before .before .before .args .table)))) (listed 1 (take (c .before .before .before .args .count) (entriesIn (c .before .before .before .args .image .now) (c .before .before .before .args .table))))))
+returns c =
+    let count-kind = c .before .count-kind in
+    let count-kind2 = c .count-kind2 in
+    let args = c .before .before .before .args in
+    rw (count-kind .ensures, count-kind2 .ensures)
+    (sym
+    (length-append (listed 0 (take (args .count) (entriesIn (args .image .now) (args .table))))
+    (listed 1 (take (args .count) (entriesIn (args .image .now) (args .table))))))
 
 pub key-count-spec : {M : Type 1} → statement M
 key-count-spec = tie.close (tie.spec count-kind-requires count-kind-requires-2 add-result returns)

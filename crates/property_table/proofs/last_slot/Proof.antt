@@ -9,7 +9,11 @@ entry-count-requires : tie.Need-entry-count-requires
 entry-count-requires c κs = (c .before .pre .0, c .before .pre .1 .0)
 
 returns : tie.Need-returns
-returns c = no-slot (entriesIn (c .before .before .before .args .image .now) (c .before .before .before .args .table)) (c .before .entry-count .ensures) (c .if1 .taken)
+returns c =
+    let args = c .before .before .before .args in
+    let entry-count = c .before .entry-count in
+    let if1 = c .if1 in
+    no-slot (entriesIn (args .image .now) (args .table)) (entry-count .ensures) (if1 .taken)
 
 sub-t6 : tie.Need-sub-t6
 sub-t6 c = search needs
@@ -21,7 +25,14 @@ slot-in-requires : tie.Need-slot-in-requires
 slot-in-requires c κs = rw (c .get-entry .ensures) (byte-at (c .before .before .before .before .pre .1 .1) _)
 
 returns-2 : tie.Need-returns-2
-returns-2 c = last-slot (entriesIn (c .before .before .before .before .before .args .image .now) (c .before .before .before .before .before .args .table)) (c .before .before .before .entry-count .ensures) (c .before .before .if1 .left) (c .before .get-entry .ensures) (c .slot-in .ensures)
+returns-2 c =
+    let args = c .before .before .before .before .before .args in
+    let entry-count = c .before .before .before .entry-count in
+    let if1 = c .before .before .if1 in
+    let get-entry = c .before .get-entry in
+    let slot-in = c .slot-in in
+    last-slot (entriesIn (args .image .now) (args .table)) (entry-count .ensures) (if1 .left)
+    (get-entry .ensures) (slot-in .ensures)
 
 pub last-slot-spec : {M : Type 1} → statement M
 last-slot-spec =

@@ -20,10 +20,20 @@ get-entry-requires : tie.Need-get-entry-requires Inv-loop μ-loop
 get-entry-requires c κs = search needs
 
 slot-in-requires : tie.Need-slot-in-requires Inv-loop μ-loop
-slot-in-requires c κs = rw (c .before .before .get-entry .ensures) (byte-at (c .before .before .before .before .before .before .pre .1 .1 .1) _)
+slot-in-requires c κs =
+    let get-entry = c .before .before .get-entry in
+    let pre = c .before .before .before .before .before .before .pre in
+    rw (get-entry .ensures) (byte-at (pre .1 .1 .1) _)
 
 returns : tie.Need-returns Inv-loop μ-loop
-returns c = hit (c .before .before .before .before .before .loop .inv) (c .before .before .before .before .before .before .before .pre .1 .1 .0) (c .before .before .before .before .loop-test .taken) (c .before .before .before .get-entry .ensures) (c .before .if1 .taken) (c .slot-in .ensures)
+returns c =
+    let loop = c .before .before .before .before .before .loop in
+    let pre = c .before .before .before .before .before .before .before .pre in
+    let loop-test = c .before .before .before .before .loop-test in
+    let get-entry = c .before .before .before .get-entry in
+    let if1 = c .before .if1 in
+    let slot-in = c .slot-in in
+    hit (loop .inv) (pre .1 .1 .0) (loop-test .taken) (get-entry .ensures) (if1 .taken) (slot-in .ensures)
 
 add-at : tie.Need-add-at Inv-loop μ-loop
 add-at c = search needs
@@ -32,7 +42,13 @@ loop-less : tie.Need-loop-less Inv-loop μ-loop
 loop-less c = search needs
 
 loop-again : tie.Need-loop-again Inv-loop μ-loop
-loop-again c = miss (c .before .before .before .before .loop .inv) (c .before .before .before .before .before .before .pre .1 .1 .0) (c .before .before .before .loop-test .taken) (c .before .before .get-entry .ensures) (c .if1 .left)
+loop-again c =
+    let loop = c .before .before .before .before .loop in
+    let pre = c .before .before .before .before .before .before .pre in
+    let loop-test = c .before .before .before .loop-test in
+    let get-entry = c .before .before .get-entry in
+    let if1 = c .if1 in
+    miss (loop .inv) (pre .1 .1 .0) (loop-test .taken) (get-entry .ensures) (if1 .left)
 
 returns-2 : tie.Need-returns-2 Inv-loop μ-loop
 returns-2 c = nowhere (c .before .loop .inv) (c .before .before .before .pre .1 .1 .0) (c .loop-test .left)

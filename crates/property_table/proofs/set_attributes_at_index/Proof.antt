@@ -6,19 +6,29 @@ use Rattle.property_table.proofs.set_attributes_at_index.Statement.{sta
 use Rattle.property_table.proofs.set_attributes_at_index.Tie as tie
 
 get-entry-requires : tie.Need-get-entry-requires
-get-entry-requires c κs = (c .before .before .pre .0, (c .before .before .pre .1 .0, c .before .before .pre .1 .1 .0))
+get-entry-requires c κs =
+    let pre = c .before .before .pre in
+    (pre .0, (pre .1 .0, pre .1 .1 .0))
 
 cast-t12 : tie.Need-cast-t12
 cast-t12 c = search needs
 
 set-entry-requires : tie.Need-set-entry-requires
-set-entry-requires c κs = (c .before .before .before .before .before .before .pre .0, (c .before .before .before .before .before .before .pre .1 .0, c .before .before .before .before .before .before .pre .1 .1 .0))
+set-entry-requires c κs =
+    let pre = c .before .before .before .before .before .before .pre in
+    (pre .0, (pre .1 .0, pre .1 .1 .0))
 
 same-length : tie.Need-same-length
 same-length c = c .before .before .set-entry .ensures .long
 
 returns : tie.Need-returns
-returns c = set-configured (entriesIn (c .before .before .before .before .before .before .before .before .before .args .image .now) (c .before .before .before .before .before .before .before .before .before .args .table)) (c .before .before .before .before .before .before .before .before .before .args .position .0) (c .before .before .before .before .before .before .before .before .before .pre .1 .1 .1) (c .before .before .before .before .before .before .before .before .before .pre .1 .1 .0) _ _ _ (c .before .before .before .before .before .before .get-entry .ensures) (c .before .before .set-entry .ensures)
+returns c =
+    let args = c .before .before .before .before .before .before .before .before .before .args in
+    let pre = c .before .before .before .before .before .before .before .before .before .pre in
+    let get-entry = c .before .before .before .before .before .before .get-entry in
+    let set-entry = c .before .before .set-entry in
+    set-configured (entriesIn (args .image .now) (args .table)) (args .position .0) (pre .1 .1 .1)
+    (pre .1 .1 .0) _ _ _ (get-entry .ensures) (set-entry .ensures)
 
 pub set-attributes-at-index-spec : {M : Type 1} → statement M
 set-attributes-at-index-spec =

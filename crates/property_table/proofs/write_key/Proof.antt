@@ -8,13 +8,20 @@ use Rattle.property_table.proofs.write_key.Statement.{statement}
 use Rattle.property_table.proofs.write_key.Tie as tie
 
 returns : tie.Need-returns
-returns c = key-passed (c .before .args .kind) (c .before .args .key) (c .before .args .out .now) (c .before .args .at) (c .if1 .taken)
+returns c =
+    let args = c .before .args in
+    let if1 = c .if1 in
+    key-passed (args .kind) (args .key) (args .out .now) (args .at) (if1 .taken)
 
 mul-out : tie.Need-mul-out
 mul-out c = search needs
 
 slice-write-out : tie.Need-slice-write-out
-slice-write-out c = let one = ap length (of-kind (c .before .args .kind) (c .before .args .key) (c .if1 .left)) in search needs
+slice-write-out c =
+    let args = c .before .args in
+    let if1 = c .if1 in
+    let one = ap length (of-kind (args .kind) (args .key) (if1 .left)) in
+    search needs
 
 add-result : tie.Need-add-result
 add-result c = search needs
@@ -23,7 +30,11 @@ same-length : tie.Need-same-length
 same-length c = search needs
 
 returns-2 : tie.Need-returns-2
-returns-2 c = let one = ap length (of-kind (c .before .args .kind) (c .before .args .key) (c .if1 .left)) in key-written (c .before .args .kind) (c .before .args .key) (c .before .args .out .now) (c .before .args .at) (c .if1 .left) (omega arith)
+returns-2 c =
+    let args = c .before .args in
+    let if1 = c .if1 in
+    let one = ap length (of-kind (args .kind) (args .key) (if1 .left)) in
+    key-written (args .kind) (args .key) (args .out .now) (args .at) (if1 .left) (omega arith)
 
 pub write-key-spec : {M : Type 1} → statement M
 write-key-spec =

@@ -20,7 +20,12 @@ get-entry-requires : tie.Need-get-entry-requires Inv-loop μ-loop
 get-entry-requires c κs = search needs
 
 write-key-requires : tie.Need-write-key-requires Inv-loop μ-loop
-write-key-requires c κs = list-room (c .before .before .before .loop .inv) (c .before .before .before .before .before .before .pre .1 .1 .0) (c .before .before .before .before .before .before .pre .1 .1 .1) (c .before .before .loop-test .taken) (c .before .get-entry .ensures)
+write-key-requires c κs =
+    let loop = c .before .before .before .loop in
+    let pre = c .before .before .before .before .before .before .pre in
+    let loop-test = c .before .before .loop-test in
+    let get-entry = c .before .get-entry in
+    list-room (loop .inv) (pre .1 .1 .0) (pre .1 .1 .1) (loop-test .taken) (get-entry .ensures)
 
 add-i : tie.Need-add-i Inv-loop μ-loop
 add-i c = search needs
@@ -29,13 +34,27 @@ loop-less : tie.Need-loop-less Inv-loop μ-loop
 loop-less c = search needs
 
 loop-again : tie.Need-loop-again Inv-loop μ-loop
-loop-again c = list-turn (c .before .before .before .before .before .before .loop .inv) (c .before .before .before .before .before .before .before .before .before .pre .1 .1 .0) (c .before .before .before .before .before .before .before .before .before .pre .1 .1 .1) (c .before .before .before .before .before .loop-test .taken) (c .before .before .before .before .get-entry .ensures) (c .before .before .write-key .ensures .0) (c .before .before .write-key .ensures .1)
+loop-again c =
+    let loop = c .before .before .before .before .before .before .loop in
+    let pre = c .before .before .before .before .before .before .before .before .before .pre in
+    let loop-test = c .before .before .before .before .before .loop-test in
+    let get-entry = c .before .before .before .before .get-entry in
+    let write-key = c .before .before .write-key in
+    list-turn (loop .inv) (pre .1 .1 .0) (pre .1 .1 .1) (loop-test .taken) (get-entry .ensures)
+    (write-key .ensures .0) (write-key .ensures .1)
 
 same-length : tie.Need-same-length Inv-loop μ-loop
-same-length c = list-length (c .before .loop .inv) (c .before .before .before .before .pre .1 .1 .0) (c .before .before .before .before .pre .1 .1 .1)
+same-length c =
+    let loop = c .before .loop in
+    let pre = c .before .before .before .before .pre in
+    list-length (loop .inv) (pre .1 .1 .0) (pre .1 .1 .1)
 
 returns : tie.Need-returns Inv-loop μ-loop
-returns c = list-done (c .before .loop .inv) (c .before .before .before .before .pre .1 .1 .0) (c .before .before .before .before .pre .1 .1 .1) (c .loop-test .left)
+returns c =
+    let loop = c .before .loop in
+    let pre = c .before .before .before .before .pre in
+    let loop-test = c .loop-test in
+    list-done (loop .inv) (pre .1 .1 .0) (pre .1 .1 .1) (loop-test .left)
 
 pub write-kind-spec : {M : Type 1} → statement M
 write-kind-spec =
