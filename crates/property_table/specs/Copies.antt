@@ -16,58 +16,18 @@ use Rattle.slot.specs.declared.OptionalSlot.{OptionalSlot}
 use Rattle.store.specs.Lists.{at, put}
 use Rattle.store.specs.Model.{Table, free, used, Model, freeTable, tableAt, putTable, entriesOf, noEntry}
 use Rattle.store.specs.Layout.{parse, fits, roomFor}
-use Rattle.store.specs.PlaceLaws.{at-put-same, at-put-other}
-use Rattle.store.specs.ListLaws.{every-place}
 use Rattle.store.specs.Image.{Formed, Place, Becomes, unchanged, and-then, put-table-sizes}
+use Rattle.store.specs.Tables.{entries-fit, table-put, table-other, table-put-again, table-put-back, put-then}
 use Rattle.store.specs.declared.Entry.{Entry}
 use Rattle.rules.specs.Shapes.{entry, widths, appended}
+use Rattle.theorems.specs.Entries.{length-appended}
+use Rattle.theorems.specs.Facts.{used-table}
 use Rattle.property_table.specs.Slotted.{Slotted, slotted-appended, byte-at, slotBefore, next-slot}
 use Rattle.property_table.specs.Slotted.{widths-few, slotted-take, extended, extended-none}
-
--- ## A table that was put
-
-put-twice : {A : Type 0} (xs : List A) (n : ℕ) (x y : A) → put (put xs n x) n y ≡ put xs n y
-put-twice xs zero x y = refl
-put-twice xs (suc n) x y = set-set xs n x y
-
-put-own : {A : Type 0} (xs : List A) (n : ℕ) (d : A) → put xs n (at xs n d) ≡ xs
-put-own xs zero d = refl
-put-own xs (suc n) d = set-getD xs n d
-
-module _ (m : Model) (t : ℕ) (x : Table) where
-  pub table-put : Place (length (m .tables)) t → tableAt (putTable m t x) t ≡ x
-  unfolding tableAt putTable
-  table-put h = at-put-same (m .tables) t x free (h .low) (h .high)
-
-  pub table-other : {s : ℕ} → s ≢ t → tableAt (putTable m t x) s ≡ tableAt m s
-  unfolding tableAt putTable
-  table-other {s} h = at-put-other (m .tables) t s x free h
-
-  pub table-twice : (y : Table) → putTable (putTable m t x) t y ≡ putTable m t y
-  unfolding putTable
-  table-twice y = rw put-twice
-
-  table-own : tableAt m t ≡ x → putTable m t x ≡ m
-  unfolding tableAt putTable
-  table-own e = rw (← e, put-own (m .tables) t free)
-
--- A table in use.
-used-entries : (x : Table) → freeTable x ≡ false → x ≡ used (entriesOf x)
-used-entries free e = absurd (true≢false e)
-used-entries (used es) e = refl
 
 -- The entries of a table of an image.
 abbrev pub entriesIn : List ℕ → (table : ℕ) → List Entry
 entriesIn image t = entriesOf (tableAt (parse image) t)
-
--- "K keys per table": no table has more,
-pub entries-fit : {image : List ℕ} → Formed image → (t : ℕ) → length (entriesIn image t) ≤ parse image .K
-unfolding fits tableAt
-entries-fit {image} f t =
-    let K = parse image .K in
-    let none = le-leb 0 K (omega arith) in
-    leb-true (length (entriesIn image t)) K
-    (every-place free (roomFor K) (parse image .tables) none (f .roomy) t)
 
 -- "K 1 to 2,048": so that no count of entries wraps.
 pub entries-few : {image : List ℕ} → Formed image → (t : ℕ) → length (entriesIn image t) ≤ 2048
@@ -91,7 +51,8 @@ module _ {es : List Entry} {previous : OptionalSlot} (slotted : Slotted es)
       omega arith
 
   -- and is that of the entry appended.
-  pub appended-slot : (m : Model) (t k a : ℕ) {before after : List ℕ} {s : Slot} → s ≡ slotOf (nextIndex previous) a
+  pub appended-slot : (m : Model) (t k a : ℕ) {before after : List ℕ} {s : Slot}
+      → s ≡ slotOf (nextIndex previous) a
       → Becomes before after (putTable m t (used (es ++ entry k a (s .index .0) ∷ [])))
       → Becomes before after (putTable m t (used (appended es k a)))
   appended-slot m t k a its b = rw (← next-index, ← ap (λ (s : Slot). s .index .0) its) b
@@ -148,7 +109,7 @@ module _ {m : Model} {from to : ℕ} (t : Apart m from to) (gs : List Entry) whe
       → copied (putTable m to (used gs)) from to start end
       ≡ putTable m to (used (extended gs (drop start (take end (entriesOf (tableAt m from))))))
   copied-put start end =
-      rw (table-twice, table-put m to (used gs) (t .target), table-other m to (used gs) (t .differ))
+      rw (table-put-again, table-put m to (used gs) (t .target), table-other m to (used gs) (t .differ))
 
 -- One entry appended leaves one less to append.
 module _ {m : Model} {from to i end : ℕ} (c : Copyable m from to i end) (more : i < end) where
@@ -156,14 +117,12 @@ module _ {m : Model} {from to i end : ℕ} (c : Copyable m from to i end) (more 
   es = entriesOf (tableAt m from)
 
   abbrev grown : List Entry
-  grown =
-      let next = getD (entriesOf (tableAt m from)) i noEntry in
-      appended (entriesOf (tableAt m to)) (next .key) (next .attributes)
+  grown = appended (entriesOf (tableAt m to)) (getD es i noEntry .key) (getD es i noEntry .attributes)
 
   one-less : Copyable (putTable m to (used grown)) from to (i + 1) end
   one-less =
       let room = c .room in
-      let longer : length grown ≡ length (entriesOf (tableAt m to)) + 1 = length-append (entriesOf (tableAt m to)) _ in
+      let longer = length-appended (entriesOf (tableAt m to)) (getD es i noEntry .key) _ in
       copyable-put (c .tables) grown (slotted-appended _ _ (c .slotted) (byte-at (c .tables .slotted) i))
       (omega arith) (c .inside) (omega arith)
 
@@ -204,7 +163,7 @@ module _ {before : List ℕ} {from to start end : ℕ} where
         let inside = d .ready .inside in
         let long = length-take-le end (entriesIn now from) inside in
         let none = drop-of-length-le (take end (entriesIn now from)) {i = i} (omega arith) in
-        let own = table-own (parse now) to _ (used-entries (tableAt (parse now) to) (d .ready .inUse)) in
+        let own = rw (used-table _ (d .ready .inUse)) at (table-put-back (parse now) to) in
         let whole : parse now ≡ copied (parse before) from to start end = sym (rw none own) ∙ d .rest in
         rw (← whole) (d .so-far)
 
@@ -221,8 +180,9 @@ module _ {before now : List ℕ} {from to : ℕ} (t : Apart (parse before) from 
       → Becomes now after (putTable (parse now) to (used (appended (entriesIn now to) k a)))
       → Becomes before after (putTable (parse before) to (used (appended gs k a)))
   appended-after k a more =
-      let its = table-put (parse before) to (used gs) (t .target) in
-      and-then b (rw (b .parsed, its, table-twice) at more)
+      let table = ap (λ (m : Model). tableAt m to) (b .parsed) in
+      let its = table ∙ table-put (parse before) to (used gs) (t .target) in
+      put-then (parse before) to (used gs) _ b (rw its at more)
 
   pub copied-after : (start end : ℕ) {after : List ℕ}
       → Becomes now after (copied (parse now) from to start end)
@@ -231,8 +191,8 @@ module _ {before now : List ℕ} {from to : ℕ} (t : Apart (parse before) from 
   copied-after start end more = and-then b (rw (b .parsed, copied-put t gs start end) at more)
 
   -- What is left of the source has room.
-  pub rest-copyable : Formed before → Slotted gs → (start n : ℕ) → start ≤ n → n ≡ length (entriesIn before from)
-      → length gs ≤ start → Copyable (parse now) from to start n
+  pub rest-copyable : Formed before → Slotted gs → (start n : ℕ) → start ≤ n
+      → n ≡ length (entriesIn before from) → length gs ≤ start → Copyable (parse now) from to start n
   rest-copyable f slots start n ordered all few =
       let fit = entries-fit f from in
       copyable-after slots ordered (omega arith) (omega arith)
@@ -249,9 +209,3 @@ pub copied-first : {before now after : List ℕ} {from to : ℕ} (t : Apart (par
     → Becomes now after (copied (parse now) from to 0 n)
     → Becomes before after (putTable (parse before) to (used (take n (entriesIn before from))))
 copied-first t b n more = rw (first-entries (t .slotted) n) at (copied-after t [] b 0 n more)
-
-pub take-few : {A : Type 0} (n : ℕ) (xs : List A) → n ≤ length xs → length (take n xs) ≤ n
-take-few n xs h = let long = length-take-le n xs h in omega arith
-
-pub grown-few : (es : List Entry) (k a : ℕ) {n : ℕ} → length es ≤ n → length (appended es k a) ≤ n + 1
-grown-few es k a h = let long = length-append es (entry k a (widths es) ∷ []) in omega arith

@@ -10,7 +10,8 @@ use Rattle.property_table.proofs.count_kind.Statement.{statement}
 use Rattle.property_table.proofs.count_kind.Tie as tie
 
 abbrev Inv-loop : tie.InvT-loop
-Inv-loop image table count kind n₀ i₀ n i = (i ≤ count) × (n ≡ length (listed kind (take i (entriesIn image table))))
+Inv-loop image table count kind n₀ i₀ n i =
+    (i ≤ count) × (n ≡ length (listed kind (take i (entriesIn image table))))
 
 abbrev μ-loop : tie.MeasureT-loop
 μ-loop image table count kind n₀ i₀ n i = count - i
@@ -72,4 +73,14 @@ returns c =
 pub count-kind-spec : {M : Type 1} → statement M
 count-kind-spec =
     tie.close
-    (tie.spec Inv-loop μ-loop loop-holds get-entry-requires of-kind-requires add-n add-i loop-less loop-again returns)
+    (tie.spec
+    Inv-loop
+    μ-loop
+    loop-holds
+    get-entry-requires
+    of-kind-requires
+    add-n
+    add-i
+    loop-less
+    loop-again
+    returns)
