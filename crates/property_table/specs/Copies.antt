@@ -1,21 +1,19 @@
 -- Entries of one table appended to another, one after the other.
 -- Assumes nothing.
-use mathlib.Core.Bool.{true, false, true≢false}
+use mathlib.Core.Bool.{false}
 use mathlib.Core.List.{List, [], _∷_, _++_}
 use mathlib.Core.Logic.{_≢_}
 use mathlib.Core.Path.{_≡_, refl, sym, _∙_, ap}
-use Prim.Native.Nat.{ℕ, zero, suc, _+_, _-_, _^_, _≤_, _<_}
+use Prim.Native.Nat.{ℕ, _+_, _-_, _^_, _≤_, _<_}
 use native.Mathlib.Numerals.{add-one}
 use native.Mathlib.Omega.{arith}
-use borrow.Author.Tests.{leb-true, le-leb}
-use lib.ListN.{length, getD, take, drop, length-append, drop-of-length-le}
-use lib.Seq.{set-set, set-getD, drop-cons, getD-take, length-take-le}
+use lib.ListN.{length, getD, take, drop, drop-of-length-le}
+use lib.Seq.{drop-cons, getD-take, length-take-le}
 use Rattle.slot.specs.Slots.{slotOf, nextIndex}
 use Rattle.slot.specs.declared.Slot.{Slot}
 use Rattle.slot.specs.declared.OptionalSlot.{OptionalSlot}
-use Rattle.store.specs.Lists.{at, put}
-use Rattle.store.specs.Model.{Table, free, used, Model, freeTable, tableAt, putTable, entriesOf, noEntry}
-use Rattle.store.specs.Layout.{parse, fits, roomFor}
+use Rattle.store.specs.Model.{used, Model, freeTable, tableAt, putTable, entriesOf, noEntry}
+use Rattle.store.specs.Layout.{parse}
 use Rattle.store.specs.Image.{Formed, Place, Becomes, unchanged, and-then, put-table-sizes}
 use Rattle.store.specs.Tables.{entries-fit, table-put, table-other, table-put-again, table-put-back, put-then}
 use Rattle.store.specs.declared.Entry.{Entry}
@@ -116,13 +114,16 @@ module _ {m : Model} {from to i end : ℕ} (c : Copyable m from to i end) (more 
   abbrev es : List Entry
   es = entriesOf (tableAt m from)
 
+  abbrev fs : List Entry
+  fs = entriesOf (tableAt m to)
+
   abbrev grown : List Entry
-  grown = appended (entriesOf (tableAt m to)) (getD es i noEntry .key) (getD es i noEntry .attributes)
+  grown = appended fs (getD es i noEntry .key) (getD es i noEntry .attributes)
 
   one-less : Copyable (putTable m to (used grown)) from to (i + 1) end
   one-less =
       let room = c .room in
-      let longer = length-appended (entriesOf (tableAt m to)) (getD es i noEntry .key) _ in
+      let longer : length grown ≡ length fs + 1 = length-appended fs _ _ in
       copyable-put (c .tables) grown (slotted-appended _ _ (c .slotted) (byte-at (c .tables .slotted) i))
       (omega arith) (c .inside) (omega arith)
 
@@ -163,7 +164,8 @@ module _ {before : List ℕ} {from to start end : ℕ} where
         let inside = d .ready .inside in
         let long = length-take-le end (entriesIn now from) inside in
         let none = drop-of-length-le (take end (entriesIn now from)) {i = i} (omega arith) in
-        let own = rw (used-table _ (d .ready .inUse)) at (table-put-back (parse now) to) in
+        let its = used-table (tableAt (parse now) to) (d .ready .inUse) in
+        let own = rw its at (table-put-back (parse now) to) in
         let whole : parse now ≡ copied (parse before) from to start end = sym (rw none own) ∙ d .rest in
         rw (← whole) (d .so-far)
 

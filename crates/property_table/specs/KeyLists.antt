@@ -1,10 +1,9 @@
 -- Keys of one kind, counted and written one after the other.
 -- Assumes nothing.
-use mathlib.Core.Bool.{Bool, true, false}
-use mathlib.Core.List.{List, [], _∷_, _++_, map, map-append, append-assoc, append-nil}
+use mathlib.Core.List.{List, [], _∷_, _++_, map-append, append-assoc}
 use mathlib.Core.Logic.{_≢_}
 use mathlib.Core.Path.{_≡_, refl, sym, _∙_, ap, ap₂}
-use Prim.Native.Nat.{ℕ, zero, suc, _+_, _≤_, _<_}
+use Prim.Native.Nat.{ℕ, _+_, _≤_, _<_}
 use native.Mathlib.Nat.{add-zero, zero-add}
 use native.Mathlib.Numerals.{add-one}
 use native.Mathlib.Omega.{arith}
@@ -12,13 +11,11 @@ use borrow.Author.Tests.{eq-eqb, ne-eqb}
 use lib.Dec.{eqb}
 use lib.ListN.{length, getD, set, take, drop, length-append, length-drop, length-map, take-append-drop}
 use lib.Seq.{take-suc, take-at, drop-at, drop-drop, set-split, length-take-le, take-take}
-use Rattle.slot.specs.If.{if_then_else_}
-use Rattle.store.specs.Lists.{keep}
 use Rattle.store.specs.Model.{noEntry}
 use Rattle.store.specs.ListLaws.{keep-append, length-keep}
 use Rattle.store.specs.declared.Entry.{Entry}
 use Rattle.rules.specs.Numbers.{kindOf}
-use Rattle.rules.specs.Sweep.{keysOfKind, keyList}
+use Rattle.rules.specs.Sweep.{keysOfKind}
 use Rattle.theorems.specs.Entries.{keys}
 
 -- "strings in order, then symbols in order": one of the two.
@@ -118,7 +115,7 @@ counted-more kind i es h sum its one =
     sym (ap length (listed-more kind es i h) ∙ length-append (listed kind (take i es)) _ ∙ rw (sum, one, its))
 
 pub record Listing (kind n : ℕ) (es : List Entry) (before : List ℕ) (at i end : ℕ) (out : List ℕ)
-  : Type 0 where
+    : Type 0 where
   pub within : i ≤ n
   pub ends : end ≡ at + length (listed kind (take i es))
   pub so-far : out ≡ written before at (listed kind (take i es))

@@ -1,21 +1,19 @@
 -- The key at a position, where keys are distinct: other attributes for it, and the entries without it.
 -- Assumes nothing.
-use mathlib.Core.Bool.{Bool, true, false, _||_, not}
-use mathlib.Core.List.{List, [], _∷_, _++_, map, map-append}
+use mathlib.Core.Bool.{true, false}
+use mathlib.Core.List.{List, [], _∷_, _++_, map-append}
 use mathlib.Core.Path.{_≡_, refl, sym, _∙_, ap, ap₂}
 use Prim.Native.Nat.{ℕ, zero, suc, _+_, _≤_, _<_}
 use native.Mathlib.Nat.{not-suc-le-zero, le-of-suc-le-suc}
 use native.Mathlib.Numerals.{add-one}
 use native.Mathlib.Omega.{arith}
-use borrow.Author.Tests.{eqb-true, eq-eqb, not-true}
+use borrow.Author.Tests.{eq-eqb}
 use lib.Dec.{eqb}
 use lib.ListN.{length, getD, set, take, drop}
 use lib.Seq.{split-at, set-split, take-length, length-take-le}
-use Rattle.slot.specs.If.{if_then_else_}
 use Rattle.slot.specs.Attributes.{goodAttributes, sameWidth}
-use Rattle.store.specs.Lists.{any, keep}
 use Rattle.store.specs.Model.{Model, used, freeTable, tableAt, putTable, noEntry}
-use Rattle.store.specs.ListLaws.{and-both, or-none, eqb-sym, keep-append}
+use Rattle.store.specs.ListLaws.{or-none, eqb-sym, keep-append}
 use Rattle.store.specs.Layout.{parse}
 use Rattle.store.specs.Image.{Formed, Place, Becomes}
 use Rattle.store.specs.declared.Entry.{Entry}
@@ -134,8 +132,9 @@ module _ {before now : List ℕ} {from to n p : ℕ} (f : Formed before) (t : Ap
       (copied-after t (take p es) first (p + 1) n others)
 
   -- or the key with other attributes, and then the others.
-  pub key-ready : Place (length (parse now .tables)) to × (freeTable (tableAt (parse now) to) ≡ false)
-      × (length (entriesIn now to) < parse now .K) × Slotted (entriesIn now to)
+  pub key-ready : Place (length (parse now .tables)) to
+      × ((freeTable (tableAt (parse now) to) ≡ false)
+      × ((length (entriesIn now to) < parse now .K) × Slotted (entriesIn now to)))
   key-ready =
       let ready = rest-copyable t (take p es) first f slots p n (omega arith) all (omega (arith, long)) in
       let room = ready .room in
@@ -169,4 +168,4 @@ module _ {before now : List ℕ} {from to n p : ℕ} (f : Formed before) (t : Ap
 pub configured-laid : (k a : ℕ) (es : List Entry) → goodEntries es ≡ true → goodAttributes a ≡ true
     → sameWidth (attributesIn k es) a ≡ true → laid 0 (configured es k a) ≡ configured es k a
 configured-laid k a es good byte same =
-    laid-self 0 (configured es k a) (good-slots _ (good-configured es k a good byte same))
+    laid-self 0 (configured es k a) (good-slots (configured es k a) (good-configured es k a good byte same))

@@ -1,15 +1,14 @@
 -- Entries whose slots are right: the slot index that comes next, and entries laid one after the other.
 -- Assumes nothing.
-use mathlib.Core.Bool.{Bool, true, false, _&&_}
-use mathlib.Core.List.{List, [], _∷_, _++_, map, append-assoc, append-nil}
+use mathlib.Core.Bool.{Bool, true, false}
+use mathlib.Core.List.{List, [], _∷_, _++_, append-assoc, append-nil}
 use mathlib.Core.Logic.{_≢_}
-use mathlib.Core.Path.{_≡_, refl, sym, _∙_, ap, ap₂}
+use mathlib.Core.Path.{_≡_, refl, sym, _∙_, ap}
 use Prim.Native.Nat.{ℕ, zero, suc, _+_, _-_, _*_, _≤_, _<_}
 use native.Mathlib.Nat.{not-suc-le-zero, le-of-suc-le-suc, add-assoc, add-zero, zero-add}
 use native.Mathlib.Omega.{arith}
-use borrow.Author.Tests.{eqb-true, leb-true, le-leb}
-use lib.Dec.{eqb}
-use lib.ListN.{length, getD, take, drop, length-append}
+use borrow.Author.Tests.{leb-true, le-leb}
+use lib.ListN.{length, getD, take}
 use lib.Seq.{take-length}
 use Rattle.slot.specs.If.{if_then_else_}
 use Rattle.slot.specs.Attributes.{goodAttributes, accessor, width}
@@ -149,5 +148,5 @@ extended-none es = extended-laid [] es
 -- and what is laid out goes on.
 pub extended-on : (xs ys : List Entry) → extended (laid 0 xs) ys ≡ laid 0 (xs ++ ys)
 extended-on xs ys =
-    let whole = laid-append 0 xs ys ∙ rw zero-add in
+    let whole : laid 0 (xs ++ ys) ≡ laid 0 xs ++ laid (widths xs) ys = laid-append 0 xs ys ∙ rw zero-add in
     extended-laid (laid 0 xs) ys ∙ rw (widths-laid 0 xs) (sym whole)
