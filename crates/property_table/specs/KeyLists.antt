@@ -46,6 +46,9 @@ listed-fewer kind es i =
     let same = ap length (sym both ∙ parts) in
     omega arith
 
+pub one-at-most : (kind key : ℕ) → length (oneListed kind key) ≤ 1
+one-at-most kind key = length-keep (λ (k : ℕ). eqb (kindOf k) kind) (key ∷ [])
+
 listed-few : (kind : ℕ) (es : List Entry) → length (listed kind es) ≤ length es
 listed-few kind es =
     let kept = length-keep (λ (k : ℕ). eqb (kindOf k) kind) (keys es) in

@@ -1,11 +1,11 @@
 -- `property_table::count_kind` meets its contract. Assumes nothing.
 use mathlib.Core.Path.{_≡_, refl}
-use Prim.Native.Nat.{_+_, _-_, _≤_}
+use Prim.Native.Nat.{_-_, _≤_}
 use native.Mathlib.Omega.{arith}
 use lib.ListN.{length, take}
 use borrow.Author.Needs.{needs}
 use Rattle.property_table.specs.Copies.{entriesIn, entries-few}
-use Rattle.property_table.specs.KeyLists.{listed, listed-below, counted-more}
+use Rattle.property_table.specs.KeyLists.{listed, listed-below, one-at-most, counted-more}
 use Rattle.property_table.proofs.count_kind.Statement.{statement}
 use Rattle.property_table.proofs.count_kind.Tie as tie
 
@@ -27,19 +27,14 @@ of-kind-requires c κs = search needs
 
 add-n : tie.Need-add-n Inv-loop μ-loop
 add-n c =
-    let pre = c .before .before .before .before .before .pre in
-    let loop-test = c .before .before .loop-test in
-    let args = c .before .before .before .before .before .args in
+    let start = c .before .before .before .before .before in
+    let args = start .args in
     let loop = c .before .before .before .loop in
-    let get-entry = c .before .get-entry in
-    let of-kind = c .of-kind in
-    let inside = pre .1 .1 in
-    let test = loop-test .taken in
-    let more =
-    counted-more (args .kind) (loop .i) (entriesIn (args .image .now) (args .table)) (omega arith)
-    (loop .inv .1) (get-entry .ensures) (of-kind .ensures) in
-    let below = listed-below (args .kind) (entriesIn (args .image .now) (args .table)) (loop .i + 1) in
-    let few = entries-few (pre .0) (args .table) in
+    let sum = loop .inv .1 in
+    let below = listed-below (args .kind) (entriesIn (args .image .now) (args .table)) (loop .i) in
+    let few = entries-few (start .pre .0) (args .table) in
+    let one = c .of-kind .ensures in
+    let most = one-at-most (args .kind) (c .before .get-entry .result .key) in
     search needs
 
 add-i : tie.Need-add-i Inv-loop μ-loop
