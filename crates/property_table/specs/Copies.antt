@@ -80,7 +80,7 @@ copied m from to start end =
 
 -- Once entries gs were put into the one table, the other is as it was.
 module _ {m : Model} {from to : ℕ} (t : Apart m from to) (gs : List Entry) where
-  pub apart-put : Apart (putTable m to (used gs)) from to
+  apart-put : Apart (putTable m to (used gs)) from to
   apart-put =
       let long = put-table-sizes m to (used gs) .tables in
       record {
@@ -90,7 +90,7 @@ module _ {m : Model} {from to : ℕ} (t : Apart m from to) (gs : List Entry) whe
         slotted = rw (table-other m to (used gs) (t .differ)) (t .slotted);
       }
 
-  pub copyable-put : {start end : ℕ} → Slotted gs → start ≤ end → end ≤ length (entriesOf (tableAt m from))
+  copyable-put : {start end : ℕ} → Slotted gs → start ≤ end → end ≤ length (entriesOf (tableAt m from))
       → length gs + (end - start) ≤ m .K → Copyable (putTable m to (used gs)) from to start end
   copyable-put slots ordered inside room =
       let its = table-put m to (used gs) (t .target) in
@@ -103,7 +103,7 @@ module _ {m : Model} {from to : ℕ} (t : Apart m from to) (gs : List Entry) whe
         room = rw (its, put-table-sizes m to (used gs) .keys) room;
       }
 
-  pub copied-put : (start end : ℕ)
+  copied-put : (start end : ℕ)
       → copied (putTable m to (used gs)) from to start end
       ≡ putTable m to (used (extended gs (drop start (take end (entriesOf (tableAt m from))))))
   copied-put start end =
@@ -203,7 +203,7 @@ pub none-slotted : Slotted []
 none-slotted = record { slots = refl; bytes = refl }
 
 -- What is right already stays as it is.
-pub first-entries : {es : List Entry} → Slotted es → (n : ℕ) → extended [] (take n es) ≡ take n es
+first-entries : {es : List Entry} → Slotted es → (n : ℕ) → extended [] (take n es) ≡ take n es
 first-entries {es} s n = extended-none (take n es) ∙ slotted-take n s .slots
 
 pub copied-first : {before now after : List ℕ} {from to : ℕ} (t : Apart (parse before) from to)

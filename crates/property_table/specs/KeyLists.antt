@@ -66,13 +66,13 @@ listed-below kind es n =
 abbrev pub written : List ℕ → (at : ℕ) → List ℕ → List ℕ
 written out at ks = take at out ++ (ks ++ drop (at + length ks) out)
 
-pub written-none : (out : List ℕ) (at : ℕ) → written out at [] ≡ out
+written-none : (out : List ℕ) (at : ℕ) → written out at [] ≡ out
 written-none out at = rw add-zero (take-append-drop at out)
 
-pub written-one : (out : List ℕ) (at k : ℕ) → at < length out → set out at k ≡ written out at (k ∷ [])
+written-one : (out : List ℕ) (at k : ℕ) → at < length out → set out at k ≡ written out at (k ∷ [])
 written-one out at k h = rw add-one (set-split out at k h)
 
-pub written-on : (out : List ℕ) (at : ℕ) (xs ys : List ℕ) → at + length xs ≤ length out
+written-on : (out : List ℕ) (at : ℕ) (xs ys : List ℕ) → at + length xs ≤ length out
     → written (written out at xs) (at + length xs) ys ≡ written out at (xs ++ ys)
 written-on out at xs ys h =
     let n = at + length xs in
@@ -87,7 +87,7 @@ written-on out at xs ys h =
     ap₂ (λ (us vs : List ℕ). us ++ (ys ++ vs)) first rest
     ∙ rw (append-assoc (take at out), append-assoc xs)
 
-pub length-written : (out : List ℕ) (at : ℕ) (xs : List ℕ) → at + length xs ≤ length out
+length-written : (out : List ℕ) (at : ℕ) (xs : List ℕ) → at + length xs ≤ length out
     → length (written out at xs) ≡ length out
 length-written out at xs h =
     rw (length-append, length-append, length-take-le at out (omega arith), length-drop) (omega arith)

@@ -65,7 +65,7 @@ module _ (xs : List Entry) (e : Entry) (ys : List Entry) (before : has (e .key) 
       (ap₂ _++_ (without-absent (e .key) xs before) (without-absent (e .key) ys after))
 
 module _ (es : List Entry) (p : ℕ) (h : distinct (keys es) ≡ true) (l : p < length es) where
-  pub configured-at : (a : ℕ)
+  configured-at : (a : ℕ)
       → set es p (entry (keyAt es p) a (getD es p noEntry .slot .0)) ≡ configured es (keyAt es p) a
   configured-at a =
       let only = only-there es p h l in
@@ -74,7 +74,7 @@ module _ (es : List Entry) (p : ℕ) (h : distinct (keys es) ≡ true) (l : p < 
       (ap (λ (zs : List Entry). configured zs (keyAt es p) a) (split-at es p noEntry l)
       ∙ configured-parts (take p es) (getD es p noEntry) (drop (suc p) es) (only .before) (only .after) a)
 
-  pub without-at : take p es ++ drop (suc p) es ≡ without es (keyAt es p)
+  without-at : take p es ++ drop (suc p) es ≡ without es (keyAt es p)
   without-at =
       let only = only-there es p h l in
       sym
@@ -88,7 +88,7 @@ module _ (es : List Entry) (p : ℕ) (h : distinct (keys es) ≡ true) (l : p < 
 
   -- Copies but for this key: the first entries are copied as they are, those past the key with slots worked
   -- out anew: without the key,
-  pub copied-without : Slotted es → (n : ℕ) → n ≡ length es
+  copied-without : Slotted es → (n : ℕ) → n ≡ length es
       → extended (take p es) (drop (p + 1) (take n es)) ≡ laid 0 (without es (keyAt es p))
   copied-without s n all =
       rw (all, take-length es, add-one, ← without-at)
@@ -96,7 +96,7 @@ module _ (es : List Entry) (p : ℕ) (h : distinct (keys es) ≡ true) (l : p < 
       ∙ extended-on (take p es) (drop (suc p) es))
 
   -- and with other attributes for it.
-  pub copied-changed : (a : ℕ) → Slotted es → (n : ℕ) → n ≡ length es
+  copied-changed : (a : ℕ) → Slotted es → (n : ℕ) → n ≡ length es
       → extended (appended (take p es) (keyAt es p) a) (drop (p + 1) (take n es))
       ≡ laid 0 (configured es (keyAt es p) a)
   copied-changed a s n all =

@@ -36,7 +36,7 @@ pub record Slotted (es : List Entry) : Type 0 where
 
 -- ## Slots worked out
 
-pub laid-append : (n : ℕ) (xs ys : List Entry) → laid n (xs ++ ys) ≡ laid n xs ++ laid (n + widths xs) ys
+laid-append : (n : ℕ) (xs ys : List Entry) → laid n (xs ++ ys) ≡ laid n xs ++ laid (n + widths xs) ys
 laid-append n [] ys = rw add-zero
 laid-append n (x ∷ xs) ys =
     ap (λ (zs : List Entry). entry (x .key) (x .attributes) n ∷ zs)

@@ -1,5 +1,5 @@
--- Laws on places: the record at a place, a record put there, the lowest place and the first record that pass a
--- test.
+-- Laws on places: the record at a place, a record put there, the lowest place and the first record that pass
+-- a test.
 -- Assumes nothing.
 use mathlib.Core.Bool.{Bool, true, false, true≢false}
 use mathlib.Core.List.{List, [], _∷_, map}
