@@ -9,7 +9,7 @@ use native.Mathlib.Nat.{add-zero, not-suc-le-zero, le-of-suc-le-suc}
 use native.Mathlib.Numerals.{add-one}
 use native.Mathlib.Omega.{arith}
 use lib.ListN.{length, getD, set, drop, drop-of-length-le}
-use lib.Seq.{drop-cons, set-getD}
+use lib.Seq.{drop-cons}
 use Rattle.slot.specs.If.{if_then_else_}
 use Rattle.store.specs.Lists.{at, put, first}
 use Rattle.store.specs.Model.{Model}
@@ -21,11 +21,6 @@ module _ {A : Type 0} where
   -- After n records comes the one at place n + 1.
   at-next : (xs : List A) (n : ℕ) (d : A) → at xs (n + 1) d ≡ getD xs n d
   at-next xs n d = rw add-one
-
-  -- A record put back where it stands changes nothing.
-  pub put-back : (xs : List A) (n : ℕ) (d : A) → put xs n (at xs n d) ≡ xs
-  put-back xs zero d = refl
-  put-back xs (suc n) d = set-getD xs n d
 
 -- ## Looking for the first that passes
 

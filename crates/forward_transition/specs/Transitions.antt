@@ -15,10 +15,10 @@ use Rattle.store.specs.Lists.{lowest}
 use Rattle.store.specs.Model.{Model, noEdge, edgeAt, putEdge, shapeAt}
 use Rattle.store.specs.Layout.{parse}
 use Rattle.store.specs.Image.{Formed, Place, Becomes, unchanged, and-then}
-use Rattle.store.specs.PlaceLaws.{FirstOrNone, first-or-none, lowest-first, lowest-none}
+use Rattle.store.specs.PlaceLaws.{FirstOrNone, first-or-none, lowest-first, lowest-none, put-back}
 use Rattle.store.specs.declared.Edge.{Edge}
 use Rattle.rules.specs.Steps.{dead, prune, counter, putCounter, withEdges, pruned, counted}
-use Rattle.forward_transition.specs.Loops.{Changing, change-next, put-back}
+use Rattle.forward_transition.specs.Loops.{Changing, change-next}
 use Rattle.forward_transition.specs.declared.Transition.{Transition}
 use Rattle.forward_transition.specs.declared.Transition.the-variants.{Live, Dead, Absent}
 

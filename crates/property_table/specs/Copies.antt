@@ -1,73 +1,31 @@
 -- Entries of one table appended to another, one after the other.
 -- Assumes nothing.
-use mathlib.Core.Bool.{true, false, true≢false}
+use mathlib.Core.Bool.{false}
 use mathlib.Core.List.{List, [], _∷_, _++_}
 use mathlib.Core.Logic.{_≢_}
 use mathlib.Core.Path.{_≡_, refl, sym, _∙_, ap}
-use Prim.Native.Nat.{ℕ, zero, suc, _+_, _-_, _^_, _≤_, _<_}
+use Prim.Native.Nat.{ℕ, _+_, _-_, _^_, _≤_, _<_}
 use native.Mathlib.Numerals.{add-one}
 use native.Mathlib.Omega.{arith}
-use borrow.Author.Tests.{leb-true, le-leb}
-use lib.ListN.{length, getD, take, drop, length-append, drop-of-length-le}
-use lib.Seq.{set-set, set-getD, drop-cons, getD-take, length-take-le}
+use lib.ListN.{length, getD, take, drop, drop-of-length-le}
+use lib.Seq.{drop-cons, getD-take, length-take-le}
 use Rattle.slot.specs.Slots.{slotOf, nextIndex}
 use Rattle.slot.specs.declared.Slot.{Slot}
 use Rattle.slot.specs.declared.OptionalSlot.{OptionalSlot}
-use Rattle.store.specs.Lists.{at, put}
-use Rattle.store.specs.Model.{Table, free, used, Model, freeTable, tableAt, putTable, entriesOf, noEntry}
-use Rattle.store.specs.Layout.{parse, fits, roomFor}
-use Rattle.store.specs.PlaceLaws.{at-put-same, at-put-other}
-use Rattle.store.specs.ListLaws.{every-place}
+use Rattle.store.specs.Model.{used, Model, freeTable, tableAt, putTable, entriesOf, noEntry}
+use Rattle.store.specs.Layout.{parse}
 use Rattle.store.specs.Image.{Formed, Place, Becomes, unchanged, and-then, put-table-sizes}
+use Rattle.store.specs.Tables.{entries-fit, table-put, table-other, table-put-again, table-put-back, put-then}
 use Rattle.store.specs.declared.Entry.{Entry}
 use Rattle.rules.specs.Shapes.{entry, widths, appended}
+use Rattle.theorems.specs.Entries.{length-appended}
+use Rattle.theorems.specs.Facts.{used-table}
 use Rattle.property_table.specs.Slotted.{Slotted, slotted-appended, byte-at, slotBefore, next-slot}
 use Rattle.property_table.specs.Slotted.{widths-few, slotted-take, extended, extended-none}
-
--- ## A table that was put
-
-put-twice : {A : Type 0} (xs : List A) (n : ℕ) (x y : A) → put (put xs n x) n y ≡ put xs n y
-put-twice xs zero x y = refl
-put-twice xs (suc n) x y = set-set xs n x y
-
-put-own : {A : Type 0} (xs : List A) (n : ℕ) (d : A) → put xs n (at xs n d) ≡ xs
-put-own xs zero d = refl
-put-own xs (suc n) d = set-getD xs n d
-
-module _ (m : Model) (t : ℕ) (x : Table) where
-  pub table-put : Place (length (m .tables)) t → tableAt (putTable m t x) t ≡ x
-  unfolding tableAt putTable
-  table-put h = at-put-same (m .tables) t x free (h .low) (h .high)
-
-  pub table-other : {s : ℕ} → s ≢ t → tableAt (putTable m t x) s ≡ tableAt m s
-  unfolding tableAt putTable
-  table-other {s} h = at-put-other (m .tables) t s x free h
-
-  pub table-twice : (y : Table) → putTable (putTable m t x) t y ≡ putTable m t y
-  unfolding putTable
-  table-twice y = rw put-twice
-
-  table-own : tableAt m t ≡ x → putTable m t x ≡ m
-  unfolding tableAt putTable
-  table-own e = rw (← e, put-own (m .tables) t free)
-
--- A table in use.
-used-entries : (x : Table) → freeTable x ≡ false → x ≡ used (entriesOf x)
-used-entries free e = absurd (true≢false e)
-used-entries (used es) e = refl
 
 -- The entries of a table of an image.
 abbrev pub entriesIn : List ℕ → (table : ℕ) → List Entry
 entriesIn image t = entriesOf (tableAt (parse image) t)
-
--- "K keys per table": no table has more,
-pub entries-fit : {image : List ℕ} → Formed image → (t : ℕ) → length (entriesIn image t) ≤ parse image .K
-unfolding fits tableAt
-entries-fit {image} f t =
-    let K = parse image .K in
-    let none = le-leb 0 K (omega arith) in
-    leb-true (length (entriesIn image t)) K
-    (every-place free (roomFor K) (parse image .tables) none (f .roomy) t)
 
 -- "K 1 to 2,048": so that no count of entries wraps.
 pub entries-few : {image : List ℕ} → Formed image → (t : ℕ) → length (entriesIn image t) ≤ 2048
@@ -91,7 +49,8 @@ module _ {es : List Entry} {previous : OptionalSlot} (slotted : Slotted es)
       omega arith
 
   -- and is that of the entry appended.
-  pub appended-slot : (m : Model) (t k a : ℕ) {before after : List ℕ} {s : Slot} → s ≡ slotOf (nextIndex previous) a
+  pub appended-slot : (m : Model) (t k a : ℕ) {before after : List ℕ} {s : Slot}
+      → s ≡ slotOf (nextIndex previous) a
       → Becomes before after (putTable m t (used (es ++ entry k a (s .index .0) ∷ [])))
       → Becomes before after (putTable m t (used (appended es k a)))
   appended-slot m t k a its b = rw (← next-index, ← ap (λ (s : Slot). s .index .0) its) b
@@ -121,7 +80,7 @@ copied m from to start end =
 
 -- Once entries gs were put into the one table, the other is as it was.
 module _ {m : Model} {from to : ℕ} (t : Apart m from to) (gs : List Entry) where
-  pub apart-put : Apart (putTable m to (used gs)) from to
+  apart-put : Apart (putTable m to (used gs)) from to
   apart-put =
       let long = put-table-sizes m to (used gs) .tables in
       record {
@@ -131,7 +90,7 @@ module _ {m : Model} {from to : ℕ} (t : Apart m from to) (gs : List Entry) whe
         slotted = rw (table-other m to (used gs) (t .differ)) (t .slotted);
       }
 
-  pub copyable-put : {start end : ℕ} → Slotted gs → start ≤ end → end ≤ length (entriesOf (tableAt m from))
+  copyable-put : {start end : ℕ} → Slotted gs → start ≤ end → end ≤ length (entriesOf (tableAt m from))
       → length gs + (end - start) ≤ m .K → Copyable (putTable m to (used gs)) from to start end
   copyable-put slots ordered inside room =
       let its = table-put m to (used gs) (t .target) in
@@ -144,26 +103,27 @@ module _ {m : Model} {from to : ℕ} (t : Apart m from to) (gs : List Entry) whe
         room = rw (its, put-table-sizes m to (used gs) .keys) room;
       }
 
-  pub copied-put : (start end : ℕ)
+  copied-put : (start end : ℕ)
       → copied (putTable m to (used gs)) from to start end
       ≡ putTable m to (used (extended gs (drop start (take end (entriesOf (tableAt m from))))))
   copied-put start end =
-      rw (table-twice, table-put m to (used gs) (t .target), table-other m to (used gs) (t .differ))
+      rw (table-put-again, table-put m to (used gs) (t .target), table-other m to (used gs) (t .differ))
 
 -- One entry appended leaves one less to append.
 module _ {m : Model} {from to i end : ℕ} (c : Copyable m from to i end) (more : i < end) where
   abbrev es : List Entry
   es = entriesOf (tableAt m from)
 
+  abbrev fs : List Entry
+  fs = entriesOf (tableAt m to)
+
   abbrev grown : List Entry
-  grown =
-      let next = getD (entriesOf (tableAt m from)) i noEntry in
-      appended (entriesOf (tableAt m to)) (next .key) (next .attributes)
+  grown = appended fs (getD es i noEntry .key) (getD es i noEntry .attributes)
 
   one-less : Copyable (putTable m to (used grown)) from to (i + 1) end
   one-less =
       let room = c .room in
-      let longer : length grown ≡ length (entriesOf (tableAt m to)) + 1 = length-append (entriesOf (tableAt m to)) _ in
+      let longer : length grown ≡ length fs + 1 = length-appended fs _ _ in
       copyable-put (c .tables) grown (slotted-appended _ _ (c .slotted) (byte-at (c .tables .slotted) i))
       (omega arith) (c .inside) (omega arith)
 
@@ -204,7 +164,8 @@ module _ {before : List ℕ} {from to start end : ℕ} where
         let inside = d .ready .inside in
         let long = length-take-le end (entriesIn now from) inside in
         let none = drop-of-length-le (take end (entriesIn now from)) {i = i} (omega arith) in
-        let own = table-own (parse now) to _ (used-entries (tableAt (parse now) to) (d .ready .inUse)) in
+        let its = used-table (tableAt (parse now) to) (d .ready .inUse) in
+        let own = rw its at (table-put-back (parse now) to) in
         let whole : parse now ≡ copied (parse before) from to start end = sym (rw none own) ∙ d .rest in
         rw (← whole) (d .so-far)
 
@@ -221,8 +182,9 @@ module _ {before now : List ℕ} {from to : ℕ} (t : Apart (parse before) from 
       → Becomes now after (putTable (parse now) to (used (appended (entriesIn now to) k a)))
       → Becomes before after (putTable (parse before) to (used (appended gs k a)))
   appended-after k a more =
-      let its = table-put (parse before) to (used gs) (t .target) in
-      and-then b (rw (b .parsed, its, table-twice) at more)
+      let table = ap (λ (m : Model). tableAt m to) (b .parsed) in
+      let its = table ∙ table-put (parse before) to (used gs) (t .target) in
+      put-then (parse before) to (used gs) _ b (rw its at more)
 
   pub copied-after : (start end : ℕ) {after : List ℕ}
       → Becomes now after (copied (parse now) from to start end)
@@ -231,8 +193,8 @@ module _ {before now : List ℕ} {from to : ℕ} (t : Apart (parse before) from 
   copied-after start end more = and-then b (rw (b .parsed, copied-put t gs start end) at more)
 
   -- What is left of the source has room.
-  pub rest-copyable : Formed before → Slotted gs → (start n : ℕ) → start ≤ n → n ≡ length (entriesIn before from)
-      → length gs ≤ start → Copyable (parse now) from to start n
+  pub rest-copyable : Formed before → Slotted gs → (start n : ℕ) → start ≤ n
+      → n ≡ length (entriesIn before from) → length gs ≤ start → Copyable (parse now) from to start n
   rest-copyable f slots start n ordered all few =
       let fit = entries-fit f from in
       copyable-after slots ordered (omega arith) (omega arith)
@@ -241,7 +203,7 @@ pub none-slotted : Slotted []
 none-slotted = record { slots = refl; bytes = refl }
 
 -- What is right already stays as it is.
-pub first-entries : {es : List Entry} → Slotted es → (n : ℕ) → extended [] (take n es) ≡ take n es
+first-entries : {es : List Entry} → Slotted es → (n : ℕ) → extended [] (take n es) ≡ take n es
 first-entries {es} s n = extended-none (take n es) ∙ slotted-take n s .slots
 
 pub copied-first : {before now after : List ℕ} {from to : ℕ} (t : Apart (parse before) from to)
@@ -249,9 +211,3 @@ pub copied-first : {before now after : List ℕ} {from to : ℕ} (t : Apart (par
     → Becomes now after (copied (parse now) from to 0 n)
     → Becomes before after (putTable (parse before) to (used (take n (entriesIn before from))))
 copied-first t b n more = rw (first-entries (t .slotted) n) at (copied-after t [] b 0 n more)
-
-pub take-few : {A : Type 0} (n : ℕ) (xs : List A) → n ≤ length xs → length (take n xs) ≤ n
-take-few n xs h = let long = length-take-le n xs h in omega arith
-
-pub grown-few : (es : List Entry) (k a : ℕ) {n : ℕ} → length es ≤ n → length (appended es k a) ≤ n + 1
-grown-few es k a h = let long = length-append es (entry k a (widths es) ∷ []) in omega arith

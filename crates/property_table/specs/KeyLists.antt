@@ -1,29 +1,26 @@
 -- Keys of one kind, counted and written one after the other.
 -- Assumes nothing.
-use mathlib.Core.Bool.{Bool, true, false}
-use mathlib.Core.List.{List, [], _∷_, _++_, map, map-append, append-assoc, append-nil}
+use mathlib.Core.List.{List, [], _∷_, _++_, map-append, append-assoc}
 use mathlib.Core.Logic.{_≢_}
 use mathlib.Core.Path.{_≡_, refl, sym, _∙_, ap, ap₂}
-use Prim.Native.Nat.{ℕ, zero, suc, _+_, _≤_, _<_}
+use Prim.Native.Nat.{ℕ, _+_, _≤_, _<_}
 use native.Mathlib.Nat.{add-zero, zero-add}
 use native.Mathlib.Numerals.{add-one}
 use native.Mathlib.Omega.{arith}
 use borrow.Author.Tests.{eq-eqb, ne-eqb}
 use lib.Dec.{eqb}
-use lib.ListN.{length, getD, set, take, drop, length-append, length-drop, take-append-drop}
+use lib.ListN.{length, getD, set, take, drop, length-append, length-drop, length-map, take-append-drop}
 use lib.Seq.{take-suc, take-at, drop-at, drop-drop, set-split, length-take-le, take-take}
-use Rattle.slot.specs.If.{if_then_else_}
-use Rattle.store.specs.Lists.{keep}
 use Rattle.store.specs.Model.{noEntry}
-use Rattle.store.specs.ListLaws.{keep-append}
+use Rattle.store.specs.ListLaws.{keep-append, length-keep}
 use Rattle.store.specs.declared.Entry.{Entry}
 use Rattle.rules.specs.Numbers.{kindOf}
-use Rattle.rules.specs.Sweep.{keysOfKind, keyList}
-use Rattle.property_table.specs.Slotted.{keysOf}
+use Rattle.rules.specs.Sweep.{keysOfKind}
+use Rattle.theorems.specs.Entries.{keys}
 
 -- "strings in order, then symbols in order": one of the two.
 abbrev pub listed : (kind : ℕ) → List Entry → List ℕ
-listed kind es = keysOfKind kind (keysOf es)
+listed kind es = keysOfKind kind (keys es)
 
 -- A key alone, listed if it is of the kind.
 abbrev pub oneListed : (kind key : ℕ) → List ℕ
@@ -33,7 +30,7 @@ oneListed kind key = keysOfKind kind (key ∷ [])
 
 listed-append : (kind : ℕ) (xs ys : List Entry) → listed kind (xs ++ ys) ≡ listed kind xs ++ listed kind ys
 listed-append kind xs ys =
-    ap (keysOfKind kind) (map-append (λ (e : Entry). e .key) xs ys) ∙ keep-append _ (keysOf xs) (keysOf ys)
+    ap (keysOfKind kind) (map-append (λ (e : Entry). e .key) xs ys) ∙ keep-append _ (keys xs) (keys ys)
 
 listed-more : (kind : ℕ) (es : List Entry) (i : ℕ) → i < length es
     → listed kind (take (i + 1) es) ≡ listed kind (take i es) ++ oneListed kind (getD es i noEntry .key)
@@ -49,14 +46,14 @@ listed-fewer kind es i =
     let same = ap length (sym both ∙ parts) in
     omega arith
 
+pub one-at-most : (kind key : ℕ) → length (oneListed kind key) ≤ 1
+one-at-most kind key = length-keep (λ (k : ℕ). eqb (kindOf k) kind) (key ∷ [])
+
 listed-few : (kind : ℕ) (es : List Entry) → length (listed kind es) ≤ length es
-listed-few kind [] = omega arith
-listed-few kind (e ∷ es) = go (eqb (kindOf (e .key)) kind) (listed-few kind es)
-  where
-    go : (b : Bool) → length (listed kind es) ≤ length es
-        → length (if b then e .key ∷ listed kind es else listed kind es) ≤ suc (length es)
-    go true l = omega arith
-    go false l = omega arith
+listed-few kind es =
+    let kept = length-keep (λ (k : ℕ). eqb (kindOf k) kind) (keys es) in
+    let all = length-map es (λ (e : Entry). e .key) in
+    omega arith
 
 pub listed-below : (kind : ℕ) (es : List Entry) (n : ℕ) → length (listed kind (take n es)) ≤ length es
 listed-below kind es n =
@@ -69,13 +66,13 @@ listed-below kind es n =
 abbrev pub written : List ℕ → (at : ℕ) → List ℕ → List ℕ
 written out at ks = take at out ++ (ks ++ drop (at + length ks) out)
 
-pub written-none : (out : List ℕ) (at : ℕ) → written out at [] ≡ out
+written-none : (out : List ℕ) (at : ℕ) → written out at [] ≡ out
 written-none out at = rw add-zero (take-append-drop at out)
 
-pub written-one : (out : List ℕ) (at k : ℕ) → at < length out → set out at k ≡ written out at (k ∷ [])
+written-one : (out : List ℕ) (at k : ℕ) → at < length out → set out at k ≡ written out at (k ∷ [])
 written-one out at k h = rw add-one (set-split out at k h)
 
-pub written-on : (out : List ℕ) (at : ℕ) (xs ys : List ℕ) → at + length xs ≤ length out
+written-on : (out : List ℕ) (at : ℕ) (xs ys : List ℕ) → at + length xs ≤ length out
     → written (written out at xs) (at + length xs) ys ≡ written out at (xs ++ ys)
 written-on out at xs ys h =
     let n = at + length xs in
@@ -90,7 +87,7 @@ written-on out at xs ys h =
     ap₂ (λ (us vs : List ℕ). us ++ (ys ++ vs)) first rest
     ∙ rw (append-assoc (take at out), append-assoc xs)
 
-pub length-written : (out : List ℕ) (at : ℕ) (xs : List ℕ) → at + length xs ≤ length out
+length-written : (out : List ℕ) (at : ℕ) (xs : List ℕ) → at + length xs ≤ length out
     → length (written out at xs) ≡ length out
 length-written out at xs h =
     rw (length-append, length-append, length-take-le at out (omega arith), length-drop) (omega arith)
@@ -120,7 +117,8 @@ pub counted-more : (kind i : ℕ) (es : List Entry) {n : ℕ} {e : Entry} {one :
 counted-more kind i es h sum its one =
     sym (ap length (listed-more kind es i h) ∙ length-append (listed kind (take i es)) _ ∙ rw (sum, one, its))
 
-pub record Listing (kind n : ℕ) (es : List Entry) (before : List ℕ) (at i end : ℕ) (out : List ℕ) : Type 0 where
+pub record Listing (kind n : ℕ) (es : List Entry) (before : List ℕ) (at i end : ℕ) (out : List ℕ)
+    : Type 0 where
   pub within : i ≤ n
   pub ends : end ≡ at + length (listed kind (take i es))
   pub so-far : out ≡ written before at (listed kind (take i es))
@@ -138,7 +136,9 @@ module _ {kind n : ℕ} {es : List Entry} {before : List ℕ} {at : ℕ} where
         omega arith
 
     pub list-length : length out ≡ length before
-    list-length = rw (l .so-far) (length-written before at (listed kind (take i es)) (listed-room i (l .within)))
+    list-length =
+        let room-so-far = listed-room i (l .within) in
+        rw (l .so-far) (length-written before at (listed kind (take i es)) room-so-far)
 
     module _ {e : Entry} (more : i < n) (its : e ≡ getD es i noEntry) where
       next-listed : listed kind (take (i + 1) es) ≡ listed kind (take i es) ++ oneListed kind (e .key)
@@ -157,11 +157,12 @@ module _ {kind n : ℕ} {es : List Entry} {before : List ℕ} {at : ℕ} where
       list-turn to wrote =
           let sum = ap length next-listed ∙ length-append (listed kind (take i es)) _ in
           let ends = l .ends in
+          let one = oneListed kind (e .key) in
+          let on = written-on before at (listed kind (take i es)) one (listed-room i (l .within)) in
           record {
             within = omega arith;
             ends = omega arith;
-            so-far = wrote ∙ rw (next-listed, l .so-far, ends)
-                (written-on before at (listed kind (take i es)) (oneListed kind (e .key)) (listed-room i (l .within)));
+            so-far = wrote ∙ rw (next-listed, l .so-far, ends) on;
           }
 
     pub list-done : n ≤ i
@@ -188,6 +189,7 @@ module _ (out xs ys : List ℕ) {end : ℕ} {mid : List ℕ} (room : length (xs 
       → (all ≡ length (xs ++ ys)) × (last ≡ (xs ++ ys) ++ drop (length (xs ++ ys)) out)
   both-written to more =
       let sum = length-append xs ys in
-      let all : written mid end ys ≡ written out 0 (xs ++ ys) = rw (wrote, ends) (written-on out 0 xs ys first-fits) in
+      let on = written-on out 0 xs ys first-fits in
+      let all : written mid end ys ≡ written out 0 (xs ++ ys) = rw (wrote, ends) on in
       let front = ap (λ (k : ℕ). (xs ++ ys) ++ drop k out) (zero-add (length (xs ++ ys))) in
       (omega arith, more ∙ all ∙ front)

@@ -1,15 +1,14 @@
 -- Entries whose slots are right: the slot index that comes next, and entries laid one after the other.
 -- Assumes nothing.
-use mathlib.Core.Bool.{Bool, true, false, _&&_}
-use mathlib.Core.List.{List, [], _∷_, _++_, map, append-assoc, append-nil}
+use mathlib.Core.Bool.{Bool, true, false}
+use mathlib.Core.List.{List, [], _∷_, _++_, append-assoc, append-nil}
 use mathlib.Core.Logic.{_≢_}
-use mathlib.Core.Path.{_≡_, refl, sym, _∙_, ap, ap₂}
+use mathlib.Core.Path.{_≡_, refl, sym, _∙_, ap}
 use Prim.Native.Nat.{ℕ, zero, suc, _+_, _-_, _*_, _≤_, _<_}
 use native.Mathlib.Nat.{not-suc-le-zero, le-of-suc-le-suc, add-assoc, add-zero, zero-add}
 use native.Mathlib.Omega.{arith}
-use borrow.Author.Tests.{eqb-true, leb-true, le-leb}
-use lib.Dec.{eqb}
-use lib.ListN.{length, getD, take, drop, length-append}
+use borrow.Author.Tests.{leb-true, le-leb}
+use lib.ListN.{length, getD, take}
 use lib.Seq.{take-length}
 use Rattle.slot.specs.If.{if_then_else_}
 use Rattle.slot.specs.Attributes.{goodAttributes, accessor, width}
@@ -19,14 +18,12 @@ use Rattle.slot.specs.declared.OptionalSlot.{OptionalSlot}
 use Rattle.slot.specs.declared.OptionalSlot.the-variants.{At, Nothing}
 use Rattle.store.specs.Lists.{every}
 use Rattle.store.specs.Model.{noEntry}
-use Rattle.store.specs.ListLaws.{and-both, both-and, every-place, every-then}
+use Rattle.store.specs.ListLaws.{and-both, both-and, every-take, every-append, every-place, every-then}
 use Rattle.store.specs.declared.Entry.{Entry}
 use Rattle.rules.specs.Numbers.{goodKey}
 use Rattle.rules.specs.Shapes.{entry, widths, appended, laid}
-use Rattle.rules.specs.Sound.{distinct, slotsFrom, goodEntries}
-
-abbrev pub keysOf : List Entry → List ℕ
-keysOf es = map (λ e. e .key) es
+use Rattle.rules.specs.Sound.{goodEntries}
+use Rattle.theorems.specs.Entries.{good-keys, good-slots, laid-self}
 
 abbrev pub goodByte : Entry → Bool
 goodByte e = goodAttributes (e .attributes)
@@ -39,15 +36,7 @@ pub record Slotted (es : List Entry) : Type 0 where
 
 -- ## Slots worked out
 
-pub laid-self : (n : ℕ) (es : List Entry) → slotsFrom n es ≡ true → laid n es ≡ es
-laid-self n [] h = refl
-laid-self n (e ∷ es) h =
-    let (first, rest) = and-both (eqb (e .slot .0) n) h in
-    let slot = sym (eqb-true (e .slot .0) n first) in
-    let later = laid-self (n + width (e .attributes)) es rest in
-    λ j. entry (e .key) (e .attributes) (slot j) ∷ later j
-
-pub laid-append : (n : ℕ) (xs ys : List Entry) → laid n (xs ++ ys) ≡ laid n xs ++ laid (n + widths xs) ys
+laid-append : (n : ℕ) (xs ys : List Entry) → laid n (xs ++ ys) ≡ laid n xs ++ laid (n + widths xs) ys
 laid-append n [] ys = rw add-zero
 laid-append n (x ∷ xs) ys =
     ap (λ (zs : List Entry). entry (x .key) (x .attributes) n ∷ zs)
@@ -57,34 +46,23 @@ laid-take : (n k : ℕ) (es : List Entry) → laid n (take k es) ≡ take k (lai
 laid-take n zero es = refl
 laid-take n (suc k) [] = refl
 laid-take n (suc k) (e ∷ es) =
-    ap (λ (zs : List Entry). entry (e .key) (e .attributes) n ∷ zs) (laid-take (n + width (e .attributes)) k es)
+    let rest = laid-take (n + width (e .attributes)) k es in
+    ap (λ (zs : List Entry). entry (e .key) (e .attributes) n ∷ zs) rest
 
 widths-laid : (n : ℕ) (es : List Entry) → widths (laid n es) ≡ widths es
 widths-laid n [] = refl
-widths-laid n (e ∷ es) = ap (λ (w : ℕ). width (e .attributes) + w) (widths-laid (n + width (e .attributes)) es)
+widths-laid n (e ∷ es) =
+    let wide = width (e .attributes) in
+    ap (λ (others : ℕ). wide + others) (widths-laid (n + wide) es)
 
 -- ## Which entries are slotted
 
 pub good-slotted : (es : List Entry) → goodEntries es ≡ true → Slotted es
 good-slotted es h =
-    let (keys, slots) = and-both (distinct (keysOf es) && every (λ e. goodKey (e .key) && goodByte e) es) h in
-    let each = and-both (distinct (keysOf es)) keys .1 in
-    record { slots = laid-self 0 es slots; bytes = every-then (λ e p. and-both (goodKey (e .key)) p .1) es each }
-
-every-take : {A : Type 0} (test : A → Bool) (n : ℕ) (xs : List A) → every test xs ≡ true
-    → every test (take n xs) ≡ true
-every-take test zero xs h = refl
-every-take test (suc n) [] h = refl
-every-take test (suc n) (x ∷ xs) h =
-    let (first, rest) = and-both (test x) h in
-    both-and first (every-take test n xs rest)
-
-every-append : {A : Type 0} (test : A → Bool) (xs ys : List A) → every test xs ≡ true → every test ys ≡ true
-    → every test (xs ++ ys) ≡ true
-every-append test [] ys h k = k
-every-append test (x ∷ xs) ys h k =
-    let (first, rest) = and-both (test x) h in
-    both-and first (every-append test xs ys rest k)
+    record {
+      slots = laid-self 0 es (good-slots es h);
+      bytes = every-then (λ e p. and-both (goodKey (e .key)) p .1) es (good-keys es h .each);
+    }
 
 pub slotted-take : (n : ℕ) {es : List Entry} → Slotted es → Slotted (take n es)
 slotted-take n {es} s =
@@ -169,4 +147,6 @@ extended-none es = extended-laid [] es
 
 -- and what is laid out goes on.
 pub extended-on : (xs ys : List Entry) → extended (laid 0 xs) ys ≡ laid 0 (xs ++ ys)
-extended-on xs ys = extended-laid (laid 0 xs) ys ∙ rw (widths-laid 0 xs) (sym (laid-append 0 xs ys ∙ rw zero-add))
+extended-on xs ys =
+    let whole : laid 0 (xs ++ ys) ≡ laid 0 xs ++ laid (widths xs) ys = laid-append 0 xs ys ∙ rw zero-add in
+    extended-laid (laid 0 xs) ys ∙ rw (widths-laid 0 xs) (sym whole)

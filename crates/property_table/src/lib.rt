@@ -11,16 +11,17 @@ use store::image::set_entry;
 use store::image::start_table;
 ghost use mathlib.Core.Path.{_≡_};
 ghost use mathlib.Core.Bool.{true, false};
-ghost use mathlib.Core.List.{[], _++_};
+ghost use mathlib.Core.List.{_++_};
 ghost use Prim.Native.Nat.{_+_, _-_, _≤_, _<_};
-ghost use lib.ListN.{length, getD, take, drop};
+ghost use lib.ListN.{length, take, drop};
 ghost use Rattle.store.specs.Model.{tableAt, putTable, freeTable, free, used};
 ghost use Rattle.store.specs.Layout.{parse};
 ghost use Rattle.store.specs.Image.{Formed, Place, Becomes};
 ghost use Rattle.rules.specs.Shapes.{appended, configured, without, laid};
 ghost use Rattle.rules.specs.Sound.{distinct};
 ghost use Rattle.rules.specs.Sweep.{keyList};
-ghost use Rattle.property_table.specs.Slotted.{Slotted, keysOf, slotIn, slotBefore};
+ghost use Rattle.theorems.specs.Entries.{keys};
+ghost use Rattle.property_table.specs.Slotted.{Slotted, slotIn, slotBefore};
 ghost use Rattle.property_table.specs.Lookup.{lookedUp};
 ghost use Rattle.property_table.specs.Copies.{entriesIn, Apart, Copyable, copied};
 ghost use Rattle.property_table.specs.OneKey.{keyAt};
@@ -148,7 +149,7 @@ pub fn copy_without(image: &mut [u32], from: u32, to: u32, position: KeyPosition
     requires { ⌜ Apart (parse (now image)) from to ⌝ }
     requires { ⌜ tableAt (parse (now image)) to ≡ free ⌝ }
     requires { ⌜ position .0 < length (entriesIn (now image) from) ⌝ }
-    requires { ⌜ distinct (keysOf (entriesIn (now image) from)) ≡ true ⌝ }
+    requires { ⌜ distinct (keys (entriesIn (now image) from)) ≡ true ⌝ }
     ensures { λ _. ⌜
         Becomes (now (image .entry)) (now (image .exit))
         (putTable (parse (now (image .entry))) to
@@ -172,7 +173,7 @@ pub fn copy_changed(
     requires { ⌜ Apart (parse (now image)) from to ⌝ }
     requires { ⌜ tableAt (parse (now image)) to ≡ free ⌝ }
     requires { ⌜ position .0 < length (entriesIn (now image) from) ⌝ }
-    requires { ⌜ distinct (keysOf (entriesIn (now image) from)) ≡ true ⌝ }
+    requires { ⌜ distinct (keys (entriesIn (now image) from)) ≡ true ⌝ }
     requires { ⌜ attributes .0 ≤ 31 ⌝ }
     ensures { λ _. ⌜
         Becomes (now (image .entry)) (now (image .exit))
@@ -197,7 +198,7 @@ pub fn set_attributes_at_index(
     requires { ⌜ Formed (now image) ⌝ }
     requires { ⌜ Place (length (parse (now image) .tables)) table ⌝ }
     requires { ⌜ position .0 < length (entriesIn (now image) table) ⌝ }
-    requires { ⌜ distinct (keysOf (entriesIn (now image) table)) ≡ true ⌝ }
+    requires { ⌜ distinct (keys (entriesIn (now image) table)) ≡ true ⌝ }
     ensures { λ _. ⌜
         Becomes (now (image .entry)) (now (image .exit))
         (putTable (parse (now (image .entry))) table

@@ -10,7 +10,7 @@ use native.Mathlib.Numerals.{one-add}
 use native.Mathlib.Omega.{arith}
 use borrow.Author.Tests.{eqb-true, eqb-false, eq-eqb, ne-eqb}
 use lib.Dec.{eqb}
-use lib.ListN.{length, getD, set, replicate, length-append}
+use lib.ListN.{length, getD, set, take, replicate, length-append}
 use Rattle.slot.specs.If.{if_then_else_}
 use Rattle.store.specs.Lists.{at, put, numbered, keep, every, any, last, all, agree, zeros}
 use Rattle.store.specs.Layout.{flat}
@@ -86,6 +86,16 @@ module _ {A : Type 0} (test : A → Bool) where
   every-put xs zero y e h = e
   every-put xs (suc k) y e h = every-set xs k y e h
 
+  pub every-take : (n : ℕ) (xs : List A) → every test xs ≡ true → every test (take n xs) ≡ true
+  every-take zero xs e = refl
+  every-take (suc n) [] e = refl
+  every-take (suc n) (x ∷ xs) e = let p = and-both (test x) e in rw (p .0) (every-take n xs (p .1))
+
+  pub every-append : (xs ys : List A) → every test xs ≡ true → every test ys ≡ true
+      → every test (xs ++ ys) ≡ true
+  every-append [] ys e h = h
+  every-append (x ∷ xs) ys e h = let p = and-both (test x) e in rw (p .0) (every-append xs ys (p .1) h)
+
   pub every-replicate : (n : ℕ) (x : A) → test x ≡ true → every test (replicate n x) ≡ true
   every-replicate zero x h = refl
   every-replicate (suc n) x h = rw h (every-replicate n x h)
@@ -93,6 +103,15 @@ module _ {A : Type 0} (test : A → Bool) where
   pub every-map : {B : Type 0} (f : B → A) (xs : List B) → every test (map f xs) ≡ every (λ x. test (f x)) xs
   every-map f [] = refl
   every-map f (x ∷ xs) = ap (λ (b : Bool). test (f x) && b) (every-map f xs)
+
+  pub length-keep : (xs : List A) → length (keep test xs) ≤ length xs
+  length-keep [] = omega arith
+  length-keep (x ∷ xs) = go (test x) (length-keep xs)
+    where
+      go : (b : Bool) → length (keep test xs) ≤ length xs
+          → length (if b then x ∷ keep test xs else keep test xs) ≤ length (x ∷ xs)
+      go true l = omega arith
+      go false l = omega arith
 
   pub keep-append : (xs ys : List A) → keep test (xs ++ ys) ≡ keep test xs ++ keep test ys
   keep-append [] ys = refl

@@ -1,5 +1,5 @@
--- Laws on places: the record at a place, a record put there, the lowest place and the first record that pass a
--- test.
+-- Laws on places: the record at a place, a record put there, the lowest place and the first record that pass
+-- a test.
 -- Assumes nothing.
 use mathlib.Core.Bool.{Bool, true, false, true≢false}
 use mathlib.Core.List.{List, [], _∷_, map}
@@ -13,7 +13,7 @@ use native.Mathlib.Omega.{arith}
 use borrow.Author.Tests.{eqb-true, eqb-false}
 use lib.Dec.{eqb}
 use lib.ListN.{length, getD, length-set}
-use lib.Seq.{getD-set-same, getD-set-other, set-set, set-comm}
+use lib.Seq.{getD-set-same, getD-set-other, set-set, set-comm, set-getD}
 use Rattle.slot.specs.If.{if_then_else_}
 use Rattle.store.specs.Lists.{at, put, numbered, lowest, first}
 
@@ -55,6 +55,11 @@ module _ {A : Type 0} where
   pub put-again : (xs : List A) (n : ℕ) (x y : A) → put (put xs n x) n y ≡ put xs n y
   put-again xs zero x y = refl
   put-again xs (suc n) x y = set-set xs n x y
+
+  -- A record put back where it stands changes nothing.
+  pub put-back : (xs : List A) (n : ℕ) (d : A) → put xs n (at xs n d) ≡ xs
+  put-back xs zero d = refl
+  put-back xs (suc n) d = set-getD xs n d
 
   -- A test that does not see the change finds the same place.
   pub lowest-put : (test : A → Bool) (start : ℕ) (xs : List A) (n : ℕ) (x d : A) → test x ≡ test (at xs n d)

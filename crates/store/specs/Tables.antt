@@ -3,7 +3,8 @@
 use mathlib.Core.Path.{_≡_, refl, sym, ap, _∙_}
 use mathlib.Core.Bool.{true, false, true≢false}
 use mathlib.Core.List.{List, [], _∷_, _++_, map, append-assoc}
-use Prim.Native.Nat.{ℕ, zero, suc, _+_, _-_, _*_, _≤_, _<_}
+use mathlib.Core.Logic.{_≢_}
+use Prim.Native.Nat.{ℕ, suc, _+_, _-_, _*_, _≤_, _<_}
 use native.Mathlib.Nat.{not-suc-le-zero, add-zero}
 use native.Mathlib.Numerals.{add-one}
 use native.Mathlib.Omega.{arith}
@@ -14,7 +15,7 @@ use lib.ListN.{length, getD, set, replicate, length-append, length-set, length-r
 use lib.Seq.{set-append-seam}
 use Rattle.store.specs.Model.{Table, free, used, Model, limitsOf, freeTable, tableAt, putTable}
 use Rattle.store.specs.Model.{entriesOf, noEntry}
-use Rattle.store.specs.PlaceLaws.{at-put-same, put-again}
+use Rattle.store.specs.PlaceLaws.{at-put-same, at-put-other, put-again, put-back}
 use Rattle.store.specs.ListLaws.{every-always, every-place}
 use Rattle.store.specs.Layout.{flat, entryWords, countWord, tableWidth, tableWords, roomFor, fits}
 use Rattle.store.specs.Layout.{parse}
@@ -198,16 +199,25 @@ module _
         becomes f (row-put its-row free from to words wide-zeros)
         (put-table-sizes (parse ws) t free)
 
--- ## A table put twice
+-- ## A table that was put
 
 pub table-put : (m : Model) (t : ℕ) (x : Table) → Place (length (m .tables)) t
     → tableAt (putTable m t x) t ≡ x
 unfolding tableAt putTable
 table-put m t x p = at-put-same (m .tables) t x free (p .low) (p .high)
 
+pub table-other : (m : Model) (t : ℕ) (x : Table) {other : ℕ} → other ≢ t
+    → tableAt (putTable m t x) other ≡ tableAt m other
+unfolding tableAt putTable
+table-other m t x {other} h = at-put-other (m .tables) t other x free h
+
 pub table-put-again : (m : Model) (t : ℕ) (x y : Table) → putTable (putTable m t x) t y ≡ putTable m t y
 unfolding putTable
 table-put-again m t x y = rw put-again
+
+pub table-put-back : (m : Model) (t : ℕ) → putTable m t (tableAt m t) ≡ m
+unfolding tableAt putTable
+table-put-back m t = rw put-back
 
 -- A change of the table after another one leaves the last.
 pub put-then : {a b c : List ℕ} (m : Model) (t : ℕ) (x y : Table) → Becomes a b (putTable m t x)

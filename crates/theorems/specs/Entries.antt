@@ -14,7 +14,7 @@ use Rattle.slot.specs.If.{if_then_else_}
 use Rattle.slot.specs.Attributes.{goodAttributes, width, sameWidth}
 use Rattle.store.specs.Lists.{keep, every, any, agree}
 use Rattle.store.specs.Model.{noEntry}
-use Rattle.store.specs.ListLaws.{and-both, both-and, or-none, agree→≡, agree-self, eqb-sym}
+use Rattle.store.specs.ListLaws.{and-both, both-and, or-none, agree→≡, agree-self, eqb-sym, length-keep}
 use Rattle.store.specs.declared.Entry.{Entry}
 use Rattle.rules.specs.Numbers.{goodKey}
 use Rattle.rules.specs.Shapes.{entry, isKey, has, attributesIn, widths, appended, configured, without, laid}
@@ -50,11 +50,16 @@ pub has-keys : (k : ℕ) (es : List Entry) → has k es ≡ any (eqb k) (keys es
 has-keys k [] = refl
 has-keys k (e ∷ es) = rw (eqb-sym (e .key) k, has-keys k es)
 
+-- The first of distinct keys is none of the others.
+pub first-apart : (e : Entry) (es : List Entry) → distinct (keys (e ∷ es)) ≡ true
+    → (has (e .key) es ≡ false) × (distinct (keys es) ≡ true)
+first-apart e es h =
+    let (fresh, rest) = and-both (not (any (eqb (e .key)) (keys es))) h in
+    (has-keys (e .key) es ∙ not-true (any (eqb (e .key)) (keys es)) fresh, rest)
+
 -- The parts of the first entry, and of the others.
 key-apart : (e : Entry) (es : List Entry) → GoodKeys (e ∷ es) → has (e .key) es ≡ false
-key-apart e es g =
-    has-keys (e .key) es
-    ∙ not-true (any (eqb (e .key)) (keys es)) (and-both (not (any (eqb (e .key)) (keys es))) (g .differ) .0)
+key-apart e es g = first-apart e es (g .differ) .0
 
 first-good : (e : Entry) (es : List Entry) → GoodKeys (e ∷ es) → goodEntry e ≡ true
 first-good e es g = and-both (goodEntry e) (g .each) .0
@@ -62,7 +67,7 @@ first-good e es g = and-both (goodEntry e) (g .each) .0
 rest-good : (e : Entry) (es : List Entry) → GoodKeys (e ∷ es) → GoodKeys es
 rest-good e es g =
     record {
-      differ = and-both (not (any (eqb (e .key)) (keys es))) (g .differ) .1;
+      differ = first-apart e es (g .differ) .1;
       each = and-both (goodEntry e) (g .each) .1;
     }
 
@@ -289,15 +294,6 @@ module _ (test : Entry → Bool) where
           more-good e (keep test es) (absent-keep (e .key) es (key-apart e es g)) (first-good e es g) later
       go false later = later
 
-  length-keep : (es : List Entry) → length (keep test es) ≤ length es
-  length-keep [] = omega arith
-  length-keep (e ∷ es) = go (test e) (length-keep es)
-    where
-      go : (b : Bool) → length (keep test es) ≤ length es
-          → length (if b then e ∷ keep test es else keep test es) ≤ length (e ∷ es)
-      go true l = omega arith
-      go false l = omega arith
-
 pub good-without : (es : List Entry) (k : ℕ) → goodEntries es ≡ true
     → goodEntries (laid 0 (without es k)) ≡ true
 good-without es k h = good-laid (without es k) (keys-keep (λ e. not (isKey k e)) es (good-keys es h))
@@ -306,13 +302,13 @@ pub length-without : (es : List Entry) (k : ℕ) → length (without es k) ≤ l
 length-without es k = length-keep (λ e. not (isKey k e)) es
 
 -- Where the key is absent, and the slots are right already, nothing changes.
-without-absent : (k : ℕ) (es : List Entry) → has k es ≡ false → without es k ≡ es
+pub without-absent : (k : ℕ) (es : List Entry) → has k es ≡ false → without es k ≡ es
 without-absent k [] h = refl
 without-absent k (e ∷ es) h =
     let p = or-none (isKey k e) h in
     rw (p .0) (ap (λ (fs : List Entry). e ∷ fs) (without-absent k es (p .1)))
 
-laid-self : (n : ℕ) (es : List Entry) → slotsFrom n es ≡ true → laid n es ≡ es
+pub laid-self : (n : ℕ) (es : List Entry) → slotsFrom n es ≡ true → laid n es ≡ es
 laid-self n [] h = refl
 laid-self n (e ∷ es) h =
     let slot = sym (first-slot n e es h) in

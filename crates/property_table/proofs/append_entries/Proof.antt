@@ -30,10 +30,9 @@ cast-t15 c =
 
 append-requires : tie.Need-append-requires Inv-loop μ-loop
 append-requires c κs =
-    let loop = c .before .before .before .before .before .loop in (
-      loop .inv .so-far .formed,
-      (loop .inv .ready .tables .target, (loop .inv .ready .inUse, (search needs, loop .inv .ready .slotted))),
-    )
+    let inv = c .before .before .before .before .before .loop .inv in
+    let ready = inv .ready in
+    (inv .so-far .formed, (ready .tables .target, (ready .inUse, (search needs, ready .slotted))))
 
 add-i : tie.Need-add-i Inv-loop μ-loop
 add-i c = search needs

@@ -2,7 +2,8 @@
 use mathlib.Core.Path.{_∙_}
 use mathlib.Core.List.{[]}
 use native.Mathlib.Omega.{arith}
-use Rattle.property_table.specs.Copies.{entries-fit, copyable-after, none-slotted, copied-first}
+use Rattle.store.specs.Tables.{entries-fit}
+use Rattle.property_table.specs.Copies.{copyable-after, none-slotted, copied-first}
 use Rattle.property_table.proofs.copy_entries.Statement.{statement}
 use Rattle.property_table.proofs.copy_entries.Tie as tie
 

@@ -24,13 +24,10 @@ add-result c =
 
 returns : tie.Need-returns
 returns c =
-    let count-kind = c .before .count-kind in
-    let count-kind2 = c .count-kind2 in
     let args = c .before .before .before .args in
-    rw (count-kind .ensures, count-kind2 .ensures)
-    (sym
-    (length-append (listed 0 (take (args .count) (entriesIn (args .image .now) (args .table))))
-    (listed 1 (take (args .count) (entriesIn (args .image .now) (args .table))))))
+    let own = take (args .count) (entriesIn (args .image .now) (args .table)) in
+    rw (c .before .count-kind .ensures, c .count-kind2 .ensures)
+    (sym (length-append (listed 0 own) (listed 1 own)))
 
 pub key-count-spec : {M : Type 1} → statement M
 key-count-spec = tie.close (tie.spec count-kind-requires count-kind-requires-2 add-result returns)

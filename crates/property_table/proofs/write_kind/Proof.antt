@@ -8,7 +8,8 @@ use Rattle.property_table.proofs.write_kind.Statement.{statement}
 use Rattle.property_table.proofs.write_kind.Tie as tie
 
 abbrev Inv-loop : tie.InvT-loop
-Inv-loop image table count kind out₀ at end₀ i₀ out end i = Listing kind count (entriesIn image table) out₀ at i end out
+Inv-loop image table count kind out₀ at end₀ i₀ out end i =
+    Listing kind count (entriesIn image table) out₀ at i end out
 
 abbrev μ-loop : tie.MeasureT-loop
 μ-loop image table count kind out₀ at end₀ i₀ out end i = count - i
