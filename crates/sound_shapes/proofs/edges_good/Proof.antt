@@ -1,0 +1,26 @@
+-- `sound_shapes::edges_good` meets its contract. Assumes nothing.
+use Rattle.sound_shapes.specs.Sentences.{edges-good}
+use borrow.Author.Needs.{needs}
+use denote.Ref.{now}
+use Rattle.store.specs.Layout.{parse}
+use Rattle.sound_shapes.proofs.edges_good.Statement.{statement}
+use Rattle.sound_shapes.proofs.edges_good.Tie as tie
+
+edge-count-requires : tie.Need-edge-count-requires
+edge-count-requires c κs = search needs
+
+every-record-passes-requires : tie.Need-every-record-passes-requires
+every-record-passes-requires c κs =
+    let pre = c .before .before .pre in
+    let edge-count = c .edge-count in
+    (pre .0, (pre .1, edge-count .ensures))
+
+returns : tie.Need-returns
+returns c =
+    let args = c .before .before .before .args in
+    let every-record-passes = c .every-record-passes in
+    let edge-count = c .before .edge-count in
+    rw (edges-good (parse (now (args .image))), every-record-passes .ensures, edge-count .ensures)
+
+pub edges-good-spec : {M : Type 1} → statement M
+edges-good-spec = tie.close (tie.spec edge-count-requires every-record-passes-requires returns)

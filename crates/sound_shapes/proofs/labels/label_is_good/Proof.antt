@@ -1,0 +1,43 @@
+-- `sound_shapes::labels::label_is_good` meets its contract. Assumes nothing.
+use Rattle.rules.specs.Shapes.{entries}
+use Rattle.sound_shapes.specs.Labels.{prototype-label, bad-attributes, label-answer}
+use borrow.Author.Needs.{needs}
+use denote.Ref.{now}
+use Rattle.store.specs.Layout.{parse}
+use Rattle.sound_shapes.proofs.labels.label_is_good.Statement.{statement}
+use Rattle.sound_shapes.proofs.labels.label_is_good.Tie as tie
+
+returns : tie.Need-returns
+returns c =
+    let args = c .before .before .before .before .args in
+    let if1 = c .before .if1 in
+    prototype-label (entries (parse (now (args .image))) (args .parent)) (args .e) (if1 .taken)
+
+returns-2 : tie.Need-returns-2
+returns-2 c =
+    let args = c .before .before .before .before .before .args in
+    let if1 = c .before .before .if1 in
+    let if2 = c .if2 in
+    bad-attributes (entries (parse (now (args .image))) (args .parent)) (args .e) (if1 .left) (if2 .taken)
+
+is-good-key-requires : tie.Need-is-good-key-requires
+is-good-key-requires c κs = search needs
+
+width-fits-requires : tie.Need-width-fits-requires
+width-fits-requires c κs =
+    let pre = c .before .before .before .before .before .before .pre in
+    let if2 = c .before .if2 in
+    (pre .0, (pre .1, if2 .left))
+
+returns-3 : tie.Need-returns-3
+returns-3 c =
+    let args = c .before .before .before .before .before .before .before .args in
+    let if1 = c .before .before .before .before .if1 in
+    let if2 = c .before .before .if2 in
+    let is-good-key = c .before .is-good-key in
+    let width-fits = c .width-fits in
+    label-answer (entries (parse (now (args .image))) (args .parent)) (args .e) (if1 .left) (if2 .left)
+    (is-good-key .ensures) (width-fits .ensures)
+
+pub label-is-good-spec : {M : Type 1} → statement M
+label-is-good-spec = tie.close (tie.spec returns returns-2 is-good-key-requires width-fits-requires returns-3)

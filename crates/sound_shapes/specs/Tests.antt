@@ -1,0 +1,131 @@
+-- The sentences of soundness about a shape's and an edge's own fields, each as a test of one record.
+-- Assumes nothing.
+use mathlib.Core.Path.{_≡_}
+use mathlib.Core.Bool.{Bool, true, _&&_, _||_, not}
+use mathlib.Core.List.{List, [], _∷_, map}
+use Prim.Native.Nat.{ℕ, _≤_}
+use lib.Dec.{eqb, ltb, leb}
+use lib.ListN.{length, drop}
+use Rattle.slot.specs.If.{if_then_else_}
+use Rattle.slot.specs.Attributes.{goodAttributes, sameWidth}
+use Rattle.store.specs.Lists.{every, all, zeros}
+use Rattle.store.specs.Model.{Model, freeShape, freeTable, freeEdge, shapeAt, tableAt, edgeAt}
+use Rattle.store.specs.Image.{Place}
+use Rattle.store.specs.Layout.{shapeWords, edgeWords}
+use Rattle.store.specs.declared.Shape.{Shape}
+use Rattle.store.specs.declared.Entry.{Entry}
+use Rattle.store.specs.declared.Edge.{Edge}
+use Rattle.rules.specs.Shapes.{has, attributesIn, unique, isRoot, shared, tableOf, entries}
+use Rattle.rules.specs.Steps.{alike, edgeKind}
+use Rattle.rules.specs.Sound.{stepOf, goodLabel, goodChild, inRange, tableInUse, tablesGood, countsFit}
+use Rattle.sound_shapes.specs.declared.Sentence.{Sentence}
+use Rattle.sound_shapes.specs.declared.Sentence.the-variants.{ShapesInRange, EdgesInRange}
+use Rattle.sound_shapes.specs.declared.Sentence.the-variants.{FreeShapesZero, FreeEdgesZero}
+use Rattle.sound_shapes.specs.declared.Sentence.the-variants.{ShapesGood, EdgesDiffer, EdgesGood}
+
+-- ## One record
+
+abbrev pub shapeInRange : (S T : ℕ) → Shape → Bool
+shapeInRange S T s =
+    freeShape s || (leb (s .state) 2 && leb (s .step) 2 && leb (s .previous) S && leb (s .table) T)
+
+abbrev pub edgeInRange : (S : ℕ) → Edge → Bool
+edgeInRange S e = freeEdge e || (leb (e .kind) 1 && leb (e .parent) S && leb (e .child) S)
+
+abbrev pub shapeZeroIfFree : Shape → Bool
+shapeZeroIfFree s = not (freeShape s) || zeros (shapeWords s)
+
+abbrev pub edgeZeroIfFree : Edge → Bool
+edgeZeroIfFree e = not (freeEdge e) || zeros (edgeWords e)
+
+abbrev pub countFits : (long : ℕ) → Shape → Bool
+countFits long s = if unique s then eqb (s .properties) long else leb (s .properties) long
+
+abbrev pub rootZero : Shape → Bool
+rootZero s = not (isRoot s) || zeros (s .step ∷ s .transitions ∷ s .properties ∷ s .prototype ∷ [])
+
+abbrev pub transitionsFew : Shape → Bool
+transitionsFew s = leb (s .transitions) 1024 && (ltb (s .transitions) 1024 || eqb (s .holds) 0)
+
+abbrev pub holdsFew : Shape → Bool
+holdsFew s = leb (s .holds) 65535 && leb (s .counters .property) 255 && leb (s .counters .prototype) 255
+
+abbrev pub uniqueZero : Shape → Bool
+uniqueZero s =
+    not (unique s)
+    || zeros (s .previous ∷ s .step ∷ s .transitions ∷ s .counters .property ∷ s .counters .prototype ∷ [])
+
+-- What a shape's own fields say, with the length of its table.
+abbrev pub ownFields : (long : ℕ) → Shape → Bool
+ownFields long s = countFits long s && rootZero s && transitionsFew s && holdsFew s && uniqueZero s
+
+-- Every sentence about a shape in use.
+abbrev pub shapeTests : Model → List (Shape → Bool)
+shapeTests m =
+    (λ s. not (freeTable (tableAt m (s .table))))
+    ∷ (λ s. countFits (length (tableOf m s)) s)
+    ∷ rootZero
+    ∷ transitionsFew
+    ∷ holdsFew
+    ∷ uniqueZero
+    ∷ []
+
+abbrev pub goodShape : Model → Shape → Bool
+goodShape m s = freeShape s || all (map (λ test. test s) (shapeTests m))
+
+abbrev pub differs : List Edge → Edge → Bool
+differs es e = every (λ f. not (alike e f)) es
+
+-- The attributes are of equal width where the key is held.
+abbrev pub widthFits : (key attributes : ℕ) → List Entry → Bool
+widthFits k a es = not (has k es) || sameWidth (attributesIn k es) a
+
+abbrev pub leadsTo : Shape → Edge → Bool
+leadsTo s e = shared s && eqb (s .previous) (e .parent) && eqb (edgeKind (stepOf (s .step) e)) (e .kind)
+
+-- A shape's entries lie within its table, and the table's attributes are good.
+pub record Keyed (m : Model) (s : Shape) : Type 0 where
+  pub place : Place (length (m .tables)) (s .table)
+  pub counted : s .properties ≤ length (tableOf m s)
+  pub good : every (λ e. goodAttributes (e .attributes)) (tableOf m s) ≡ true
+
+abbrev pub goodEdge : Model → Edge → Bool
+goodEdge m e =
+    let p = shapeAt m (e .parent) in
+    freeEdge e || (shared p && goodLabel (entries m p) e && goodChild (shapeAt m (e .child)) e)
+
+-- ## The record at a place
+
+abbrev pub countOf : Model → Sentence → ℕ
+countOf m ShapesInRange = length (m .shapes)
+countOf m EdgesInRange = length (m .edges)
+countOf m FreeShapesZero = length (m .shapes)
+countOf m FreeEdgesZero = length (m .edges)
+countOf m ShapesGood = length (m .shapes)
+countOf m EdgesDiffer = length (m .edges)
+countOf m EdgesGood = length (m .edges)
+
+-- What a sentence takes for granted.
+pub record TablesKnown (m : Model) : Type 0 where
+  pub ranges : inRange m ≡ true
+  pub inUse : tableInUse m ≡ true
+  pub good : tablesGood m ≡ true
+  pub counts : countsFit m ≡ true
+
+abbrev pub Granted : Model → Sentence → Type 0
+Granted m ShapesInRange = Unit {0}
+Granted m EdgesInRange = Unit {0}
+Granted m FreeShapesZero = Unit {0}
+Granted m FreeEdgesZero = Unit {0}
+Granted m ShapesGood = inRange m ≡ true
+Granted m EdgesDiffer = Unit {0}
+Granted m EdgesGood = TablesKnown m
+
+unfoldable pub passes : Model → Sentence → (place : ℕ) → Bool
+passes m ShapesInRange n = shapeInRange (length (m .shapes)) (length (m .tables)) (shapeAt m n)
+passes m EdgesInRange n = edgeInRange (length (m .shapes)) (edgeAt m n)
+passes m FreeShapesZero n = shapeZeroIfFree (shapeAt m n)
+passes m FreeEdgesZero n = edgeZeroIfFree (edgeAt m n)
+passes m ShapesGood n = goodShape m (shapeAt m n)
+passes m EdgesDiffer n = freeEdge (edgeAt m n) || differs (drop n (m .edges)) (edgeAt m n)
+passes m EdgesGood n = goodEdge m (edgeAt m n)

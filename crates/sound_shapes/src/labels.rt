@@ -1,0 +1,119 @@
+// What soundness asks of an edge's parent, of its key or prototype, and of its child.
+use slot::KeyPosition;
+use slot::SlotAttributes;
+use store::Edge;
+use store::Shape;
+use store::image::get_edge;
+use store::image::get_entry;
+use store::image::get_shape;
+ghost use mathlib.Core.Path.{_≡_};
+ghost use Prim.Native.Nat.{_≤_};
+ghost use lib.Dec.{leb};
+ghost use lib.ListN.{length};
+ghost use Rattle.slot.specs.If.{if_then_else_};
+ghost use Rattle.store.specs.Lists.{lowest};
+ghost use Rattle.store.specs.Model.{shapeAt, edgeAt};
+ghost use Rattle.store.specs.Layout.{parse};
+ghost use Rattle.store.specs.Image.{Formed, Place};
+ghost use Rattle.rules.specs.Numbers.{goodKey};
+ghost use Rattle.rules.specs.Shapes.{isKey, entries};
+ghost use Rattle.rules.specs.Sound.{goodLabel, goodChild};
+ghost use Rattle.sound_shapes.specs.Tests.{TablesKnown, Keyed, widthFits, leadsTo, goodEdge};
+
+fn is_good_key(key: u32) -> bool
+    ensures { λ r. ⌜ r ≡ goodKey key ⌝ }
+{
+    key / 1073741824 < 3
+}
+
+// The place of a key among a shape's entries, 0 where it is absent.
+fn place_of_key(image: &[u32], s: Shape, key: u32) -> u32
+    requires { ⌜ Formed (now image) ⌝ }
+    requires { ⌜ Keyed (parse (now image)) s ⌝ }
+    ensures { λ r. ⌜ r ≡ lowest (isKey key) 1 (entries (parse (now (image .entry))) s) ⌝ }
+{
+    let mut done = 0;
+    while done < s.properties {
+        let e = get_entry(image, s.table, KeyPosition(done));
+        if e.key == key {
+            return done + 1;
+        }
+        done += 1;
+    }
+    0
+}
+
+// The attributes are of equal width where the shape holds the key.
+fn width_fits(image: &[u32], s: Shape, key: u32, attributes: u32) -> bool
+    requires { ⌜ Formed (now image) ⌝ }
+    requires { ⌜ Keyed (parse (now image)) s ⌝ }
+    requires { ⌜ attributes ≤ 31 ⌝ }
+    ensures { λ r. ⌜ r ≡ widthFits key attributes (entries (parse (now (image .entry))) s) ⌝ }
+{
+    let place = place_of_key(image, s, key);
+    if place == 0 {
+        return true;
+    }
+    let held = get_entry(image, s.table, KeyPosition(place - 1));
+    SlotAttributes(held.attributes as u8).width_match(SlotAttributes(attributes as u8))
+}
+
+// "a property edge's key is good, its attributes up to 31 and of equal width where the parent
+// holds that key; a prototype edge has any prototype and attributes 0"
+fn label_is_good(image: &[u32], parent: Shape, e: Edge) -> bool
+    requires { ⌜ Formed (now image) ⌝ }
+    requires { ⌜ Keyed (parse (now image)) parent ⌝ }
+    ensures { λ r. ⌜ r ≡ goodLabel (entries (parse (now (image .entry))) parent) e ⌝ }
+{
+    if e.kind != 0 {
+        return e.attributes == 0;
+    }
+    if e.attributes > 31 {
+        return false;
+    }
+    is_good_key(e.label) & width_fits(image, parent, e.label, e.attributes)
+}
+
+// The kind of the edges that a step kind has.
+fn edge_kind(step: u32) -> u32
+    ensures { λ r. ⌜ r ≡ (if leb step 1 then 0 else 1) ⌝ }
+{
+    if step <= 1 { 0 } else { 1 }
+}
+
+fn leads_to(s: Shape, e: Edge) -> bool
+    ensures { λ r. ⌜ r ≡ leadsTo s e ⌝ }
+{
+    (s.state == 1) & (s.previous == e.parent) & (edge_kind(s.step) == e.kind)
+}
+
+// "an edge's child is 0 or a shared shape whose previous is that parent and whose step kind fits"
+fn child_is_good(image: &[u32], e: Edge) -> bool
+    requires { ⌜ Formed (now image) ⌝ }
+    requires { ⌜ e .child ≤ length (parse (now image) .shapes) ⌝ }
+    ensures { λ r. ⌜ r ≡ goodChild (shapeAt (parse (now (image .entry))) (e .child)) e ⌝ }
+{
+    if e.child == 0 {
+        return true;
+    }
+    leads_to(get_shape(image, e.child), e)
+}
+
+// "An edge's parent is shared;" and the two before.
+pub fn edge_is_good(image: &[u32], n: u32) -> bool
+    requires { ⌜ Formed (now image) ⌝ }
+    requires { ⌜ TablesKnown (parse (now image)) ⌝ }
+    requires { ⌜ Place (length (parse (now image) .edges)) n ⌝ }
+    ensures { λ r.
+        ⌜ r ≡ goodEdge (parse (now (image .entry))) (edgeAt (parse (now (image .entry))) n) ⌝ }
+{
+    let e = get_edge(image, n);
+    if e.parent == 0 {
+        return true;
+    }
+    let parent = get_shape(image, e.parent);
+    if parent.state != 1 {
+        return false;
+    }
+    label_is_good(image, parent, e) & child_is_good(image, e)
+}

@@ -1,0 +1,86 @@
+-- `sound_tables::good::tables_good` meets its contract. Assumes nothing.
+use denote.Ref.{now}
+use borrow.Author.Tests.{not-true, not-false}
+use native.Mathlib.Omega.{arith}
+use Prim.Native.Nat.{_-_}
+use Rattle.rules.specs.Sound.{tablesGood}
+use Rattle.store.specs.Layout.{parse}
+use Rattle.store.specs.Model.{free}
+use Rattle.sound_tables.specs.Testing.{EveryPlace, test-failed, test-on, tested-all}
+use Rattle.sound_tables.specs.Good.{goodTable, table-entries, tables-from}
+use borrow.Author.Needs.{needs}
+use Rattle.sound_tables.proofs.good.tables_good.Statement.{statement}
+use Rattle.sound_tables.proofs.good.tables_good.Tie as tie
+
+abbrev Inv-loop : tie.InvT-loop
+Inv-loop image count done₀ done =
+    EveryPlace goodTable (parse image .tables) free count done (tablesGood (parse image))
+
+abbrev μ-loop : tie.MeasureT-loop
+μ-loop image count done₀ done = count - done
+
+table-count-requires : tie.Need-table-count-requires Inv-loop μ-loop
+table-count-requires c κs = search needs
+
+loop-holds : tie.Need-loop-holds Inv-loop μ-loop
+loop-holds c = tables-from _ (c .table-count .ensures)
+
+add-table-good : tie.Need-add-table-good Inv-loop μ-loop
+add-table-good c =
+    let table-count = c .before .before .table-count in
+    let pre = c .before .before .before .before .pre in
+    omega (arith, table-count .ensures, pre .limited .tables)
+
+table-good-requires : tie.Need-table-good-requires Inv-loop μ-loop
+table-good-requires c κs =
+    let pre = c .before .before .before .before .pre in
+    let table-count = c .before .before .table-count in
+    (pre, record { low = omega arith; high = omega (arith, table-count .ensures) })
+
+returns : tie.Need-returns Inv-loop μ-loop
+returns c =
+    let loop = c .before .before .before .loop in
+    let loop-test = c .before .before .loop-test in
+    let args = c .before .before .before .before .before .before .args in
+    let table-good = c .before .table-good in
+    let if1 = c .if1 in
+    test-failed (loop .inv) (loop-test .taken)
+    (table-entries (parse (now (args .image))) _ (table-good .ensures)) (not-true _ (if1 .taken))
+
+add-done : tie.Need-add-done Inv-loop μ-loop
+add-done c =
+    let table-count = c .before .before .before .before .table-count in
+    let pre = c .before .before .before .before .before .before .pre in
+    omega (arith, table-count .ensures, pre .limited .tables)
+
+loop-less : tie.Need-loop-less Inv-loop μ-loop
+loop-less c = search needs
+
+loop-again : tie.Need-loop-again Inv-loop μ-loop
+loop-again c =
+    let loop = c .before .before .before .loop in
+    let loop-test = c .before .before .loop-test in
+    let args = c .before .before .before .before .before .before .args in
+    let table-good = c .before .table-good in
+    let if1 = c .if1 in
+    test-on (loop .inv) (loop-test .taken)
+    (table-entries (parse (now (args .image))) _ (table-good .ensures)) (not-false _ (if1 .left))
+
+returns-2 : tie.Need-returns-2 Inv-loop μ-loop
+returns-2 c = tested-all (c .before .loop .inv) (c .loop-test .left)
+
+pub tables-good-spec : {M : Type 1} → statement M
+tables-good-spec =
+    tie.close
+    (tie.spec
+    Inv-loop
+    μ-loop
+    table-count-requires
+    loop-holds
+    add-table-good
+    table-good-requires
+    returns
+    add-done
+    loop-less
+    loop-again
+    returns-2)

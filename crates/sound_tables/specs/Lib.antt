@@ -1,0 +1,4 @@
+pub mod Testing
+pub mod Tidy
+pub mod Good
+pub mod Used
