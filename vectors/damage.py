@@ -1,10 +1,9 @@
 #!/usr/bin/env python3
 """The independent count for the program `damage`: document 01's sentences, applied to each changed image.
 
-Reads the image's words out of crates/damage/src/main.rt, and prints what the program should print.
+Reads the image's words, the program's input, and prints what the program should print.
 Shares nothing with the definitions or the code: only document 01 was at hand.
 """
-import re
 import sys
 from collections import Counter
 from pathlib import Path
@@ -142,9 +141,7 @@ def child_sound(n, s, shapes, tables, edges):
 
 def main():
     root = Path(__file__).resolve().parent.parent
-    text = (root / "crates/damage/src/main.rt").read_text()
-    listed = re.search(r"const WORDS: \[u32; \d+\] = \[(.*?)\];", text, re.S).group(1)
-    words = [int(word) for word in re.findall(r"\d+", listed)]
+    words = [int(word) for word in (root / "crates/damage/stdin").read_text().split()]
     S, T, K = words[:3]
     areas = [("header", 0, 8), ("shapes", 8, 8 + 10 * S), ("tables", 8 + 10 * S, words[6]), ("edges", words[6], len(words))]
     print("unchanged", int(sound(words)))
