@@ -4,18 +4,23 @@ use mathlib.Core.Bool.{Bool, false, _||_, not, or-true, or-false}
 use mathlib.Core.List.{List, [], _∷_}
 use mathlib.Core.Logic.{_⊎_, inl, inr, _≢_}
 use mathlib.Core.Path.{_≡_, refl, sym, ap}
-use Prim.Native.Nat.{ℕ, zero, suc, _<_}
+use Prim.Native.Nat.{ℕ, zero, suc, _≤_, _<_}
 use native.Mathlib.Nat.{not-suc-le-zero, le-of-suc-le-suc}
 use native.Mathlib.Omega.{arith}
 use borrow.Author.Tests.{eq-eqb, ne-eqb}
 use lib.Dec.{eqb}
-use lib.ListN.{length, getD, set, replicate}
+use lib.ListN.{length, getD, set, replicate, List·getD-eq-default}
 use lib.Seq.{getD-set-same, getD-set-other}
 use Rattle.store.specs.PlaceLaws.{same?}
+use Rattle.store.specs.ListLaws.{not-both}
 
 -- A place outside the array is not marked.
 unfoldable pub marked : List ℕ → ℕ → Bool
 marked marks n = not (eqb (getD marks n 0) 0)
+
+pub outside-not-marked : (marks : List ℕ) {n : ℕ} → length marks ≤ n → false ≡ marked marks n
+unfolding marked
+outside-not-marked marks l = rw (List·getD-eq-default marks 0 l)
 
 pub none-marked : (size n : ℕ) → marked (replicate size 0) n ≡ false
 unfolding marked
@@ -41,10 +46,19 @@ unmarked [] = 0
 unmarked (zero ∷ xs) = suc (unmarked xs)
 unmarked (suc x ∷ xs) = unmarked xs
 
-pub unmarked-set : (xs : List ℕ) (p : ℕ) → p < length xs → getD xs p 0 ≡ 0
+unmarked-set : (xs : List ℕ) (p : ℕ) → p < length xs → getD xs p 0 ≡ 0
     → unmarked xs ≡ suc (unmarked (set xs p 1))
 unmarked-set [] p l e = absurd (not-suc-le-zero l)
 unmarked-set (zero ∷ xs) zero l e = refl
 unmarked-set (suc x ∷ xs) zero l e = absurd (omega arith)
 unmarked-set (zero ∷ xs) (suc p) l e = ap suc (unmarked-set xs p (le-of-suc-le-suc l) e)
 unmarked-set (suc x ∷ xs) (suc p) l e = unmarked-set xs p (le-of-suc-le-suc l) e
+
+pub unmarked-less : (marks : List ℕ) (p : ℕ) → p < length marks → marked marks p ≡ false
+    → unmarked (set marks p 1) < unmarked marks
+unfolding marked
+unmarked-less marks p l e = go (same? (getD marks p 0) 0)
+  where
+    go : (getD marks p 0 ≡ 0) ⊎ (getD marks p 0 ≢ 0) → unmarked (set marks p 1) < unmarked marks
+    go (inl z) = omega (arith, unmarked-set marks p l z)
+    go (inr some) = not-both (rw (ne-eqb (getD marks p 0) 0 some)) e

@@ -19,18 +19,16 @@ use Rattle.store.specs.Image.{Formed, Becomes, unchanged, and-then}
 use Rattle.store.specs.declared.Shape.{Shape}
 use Rattle.store.specs.declared.Edge.{Edge}
 use Rattle.rules.specs.Sound.{uses}
-use Rattle.rules.specs.Sweep.{sweepShapes, sweepTables, sweepEdge}
+use Rattle.rules.specs.Sweep.{sweepEdge, deadened}
 
 -- ## One kind of records of a model
 
 pub record Kind {A : Type 0} (nothing : A) : Type 0 where
   pub list : Model → List A
   pub having : Model → List A → Model
-  pub replace : Model → ℕ → A → Model
   pub reads : (m : Model) (xs : List A) → list (having m xs) ≡ xs
   pub again : (m : Model) (xs ys : List A) → having (having m xs) ys ≡ having m ys
   pub same : (m : Model) → having m (list m) ≡ m
-  pub replaces : (m : Model) (n : ℕ) (x : A) → replace m n x ≡ having m (put (list m) n x)
 
 abbrev pub withShapes : Model → List Shape → Model
 withShapes m xs = record { K = m .K; shapes = xs; tables = m .tables; edges = m .edges }
@@ -42,42 +40,33 @@ abbrev pub withEdges : Model → List Edge → Model
 withEdges m xs = record { K = m .K; shapes = m .shapes; tables = m .tables; edges = xs }
 
 abbrev pub ofShapes : Kind noShape
-unfolding putShape
 ofShapes =
     record {
       list = λ m. m .shapes;
       having = withShapes;
-      replace = putShape;
       reads = λ m xs. refl;
       again = λ m xs ys. refl;
       same = λ m. refl;
-      replaces = λ m n x. refl;
     }
 
 abbrev pub ofTables : Kind free
-unfolding putTable
 ofTables =
     record {
       list = λ m. m .tables;
       having = withTables;
-      replace = putTable;
       reads = λ m xs. refl;
       again = λ m xs ys. refl;
       same = λ m. refl;
-      replaces = λ m n x. refl;
     }
 
 abbrev pub ofEdges : Kind noEdge
-unfolding putEdge
 ofEdges =
     record {
       list = λ m. m .edges;
       having = withEdges;
-      replace = putEdge;
       reads = λ m xs. refl;
       again = λ m xs ys. refl;
       same = λ m. refl;
-      replaces = λ m n x. refl;
     }
 
 -- ## A pass
@@ -116,7 +105,8 @@ module _ {A : Type 0} {d : A} (kind : Kind d) where
     pub pass-next : {after : List ℕ} (each : A → A) → i < length (kind .list (parse before))
         → (getD new i d ≡ each (getD (kind .list (parse before)) i d))
         → Becomes now after
-        (kind .replace (parse now) (i + 1) (each (at (kind .list (parse now)) (i + 1) d)))
+        (kind .having (parse now)
+        (put (kind .list (parse now)) (i + 1) (each (at (kind .list (parse now)) (i + 1) d))))
         → Pass new before after (i + 1)
     pass-next {after} each l says b =
         record { within = omega arith; long = p .long; become = rw (← made) (and-then (p .become) b) }
@@ -130,10 +120,11 @@ module _ {A : Type 0} {d : A} (kind : Kind d) where
         now-has : kind .list (parse now) ≡ midway i old new
         now-has = ap (kind .list) (p .become .parsed) ∙ kind .reads m (midway i old new)
 
-        made : kind .replace (parse now) (i + 1) (each (at (kind .list (parse now)) (i + 1) d))
+        made : kind .having (parse now)
+            (put (kind .list (parse now)) (i + 1) (each (at (kind .list (parse now)) (i + 1) d)))
             ≡ kind .having m (midway (i + 1) old new)
         made =
-            rw (kind .replaces, now-has, add-one, midway-at d old new (p .long) i l, ← says)
+            rw (now-has, add-one, midway-at d old new (p .long) i l, ← says)
             (rw (midway-next d old new (p .long) i l, p .become .parsed) (kind .again m (midway i old new) (midway (suc i) old new)))
 
     pub pass-end : length (kind .list (parse before)) ≤ i → Becomes before now (kind .having (parse before) new)
@@ -145,6 +136,34 @@ module _ {A : Type 0} {d : A} (kind : Kind d) where
 
   -- A record that stays.
   pub stays : {ws : List ℕ} (n : ℕ) → Formed ws
-      → Becomes ws ws (kind .replace (parse ws) n (at (kind .list (parse ws)) n d))
-  stays {ws} zero f = rw (kind .replaces, kind .same (parse ws)) (unchanged f)
-  stays {ws} (suc n) f = rw (kind .replaces, set-getD, kind .same (parse ws)) (unchanged f)
+      → Becomes ws ws (kind .having (parse ws) (put (kind .list (parse ws)) n (at (kind .list (parse ws)) n d)))
+  stays {ws} zero f = rw (kind .same (parse ws)) (unchanged f)
+  stays {ws} (suc n) f = rw (set-getD, kind .same (parse ws)) (unchanged f)
+
+-- ## What each pass makes of a record
+
+if-same : {A : Type 0} (b : Bool) (x : A) → (if b then x else x) ≡ x
+if-same true x = refl
+if-same false x = refl
+
+-- Shapes and tables stay as they are, or are freed.
+module _ {A : Type 0} (stay : ℕ → Bool) (d : A) (xs : List A) where
+  abbrev pub kept : List A
+  kept = map (λ p. if stay (p .0) then p .1 else d) (numbered 1 xs)
+
+  pub kept-long : length kept ≡ length xs
+  kept-long = length-map (numbered 1 xs) _ ∙ length-numbered 1 xs
+
+  pub kept-at : (i : ℕ) → getD kept i d ≡ (if stay (i + 1) then getD xs i d else d)
+  kept-at i = rw add-one (at-map-numbered _ d d (λ n. if-same (stay n) d) xs (suc i))
+
+module _ (stay : ℕ → Bool) (xs : List Edge) where
+  pub edges-long : length (map (sweepEdge stay) xs) ≡ length xs
+  edges-long = length-map xs (sweepEdge stay)
+
+  pub edge-at : (i : ℕ) → getD (map (sweepEdge stay) xs) i noEdge ≡ sweepEdge stay (getD xs i noEdge)
+  edge-at i = at-map (sweepEdge stay) xs (suc i) noEdge (go (stay 0))
+    where
+      go : (b : Bool) → (if b then (if b then noEdge else deadened noEdge) else noEdge) ≡ noEdge
+      go true = refl
+      go false = refl
