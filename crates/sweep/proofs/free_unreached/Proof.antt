@@ -1,3 +1,7 @@
+use mathlib.Core.Path.{_∙_}
+use Rattle.sweep.specs.Freed.{passes-sweep}
+use Rattle.sweep.specs.Marks.{none-marked}
+use native.Mathlib.Omega.{arith}
 use borrow.Author.Needs.{needs}
 use Rattle.sweep.proofs.free_unreached.Statement.{statement}
 use Rattle.sweep.proofs.free_unreached.Tie as tie
@@ -14,7 +18,7 @@ slice-aggregate-mark-reached c = search needs
 
 -- src/lib.rt:37:5
 mark-reached-requires : tie.Need-mark-reached-requires
-mark-reached-requires c κs = search needs
+mark-reached-requires c κs = (c .before .before .before .pre .0, (c .before .before .before .pre .1, (omega (arith, c .before .before .before .pre .0 .limited .shapes), none-marked 65536)))
 
 -- src/lib.rt:38:25
 slice-aggregate-sweep-shapes : tie.Need-slice-aggregate-sweep-shapes
@@ -22,11 +26,11 @@ slice-aggregate-sweep-shapes c = search needs
 
 -- src/lib.rt:38:5
 sweep-shapes-requires : tie.Need-sweep-shapes-requires
-sweep-shapes-requires c κs = search needs
+sweep-shapes-requires c κs = c .before .before .before .before .before .before .before .pre .0
 
 -- src/lib.rt:39:5
 sweep-tables-requires : tie.Need-sweep-tables-requires
-sweep-tables-requires c κs = search needs
+sweep-tables-requires c κs = c .before .before .before .sweep-shapes .ensures .formed
 
 -- src/lib.rt:40:24
 slice-aggregate-sweep-edges : tie.Need-slice-aggregate-sweep-edges
@@ -34,15 +38,15 @@ slice-aggregate-sweep-edges c = search needs
 
 -- src/lib.rt:40:5
 sweep-edges-requires : tie.Need-sweep-edges-requires
-sweep-edges-requires c κs = search needs
+sweep-edges-requires c κs = c .before .before .before .before .sweep-tables .ensures .formed
 
 -- src/lib.rt:29:1
 same-length : tie.Need-same-length
-same-length c = search needs
+same-length c = c .before .before .sweep-edges .ensures .long ∙ c .before .before .before .before .before .before .before .sweep-tables .ensures .long ∙ c .before .before .before .before .before .before .before .before .before .before .before .sweep-shapes .ensures .long
 
 -- src/lib.rt:29:1
 returns : tie.Need-returns
-returns c = search needs
+returns c = passes-sweep _ (c .before .before .before .before .before .before .before .before .before .before .before .before .before .before .before .mark-reached .ensures) (c .before .before .before .before .before .before .before .before .before .before .before .sweep-shapes .ensures) (c .before .before .before .before .before .before .before .sweep-tables .ensures) (c .before .before .sweep-edges .ensures)
 
 pub free-unreached-spec : {M : Type 1} → statement M
 free-unreached-spec =

@@ -1,3 +1,5 @@
+use Rattle.sweep.specs.Freed.{freed-shapes, freed-tables}
+use native.Mathlib.Omega.{arith}
 use borrow.Author.Needs.{needs}
 use Rattle.sweep.proofs.sweep.Statement.{statement}
 use Rattle.sweep.proofs.sweep.Tie as tie
@@ -17,31 +19,31 @@ free-tables-requires c κs = search needs
 
 -- src/lib.rt:63:5
 free-unreached-requires : tie.Need-free-unreached-requires
-free-unreached-requires c κs = search needs
+free-unreached-requires c κs = (c .before .before .before .before .before .before .pre .0, c .before .before .before .before .before .before .pre .1)
 
 -- src/lib.rt:64:21
 free-shapes-requires-2 : tie.Need-free-shapes-requires-2
-free-shapes-requires-2 c κs = search needs
+free-shapes-requires-2 c κs = c .before .before .before .free-unreached .ensures .formed
 
 -- src/lib.rt:64:21
 sub-t14 : tie.Need-sub-t14
-sub-t14 c = search needs
+sub-t14 c = freed-shapes (c .before .before .before .before .before .before .before .before .before .before .before .pre .1) (c .before .before .before .before .free-unreached .ensures) (c .before .before .before .before .before .before .before .before .free-shapes .ensures) (c .free-shapes2 .ensures) .fits
 
 -- src/lib.rt:64:58
 free-tables-requires-2 : tie.Need-free-tables-requires-2
-free-tables-requires-2 c κs = search needs
+free-tables-requires-2 c κs = c .before .before .before .before .before .free-unreached .ensures .formed
 
 -- src/lib.rt:64:58
 sub-t18 : tie.Need-sub-t18
-sub-t18 c = search needs
+sub-t18 c = freed-tables (c .before .before .before .before .before .before .before .before .before .before .before .before .before .pre .1) (c .before .before .before .before .before .before .free-unreached .ensures) (c .before .before .before .before .before .before .before .before .free-tables .ensures) (c .free-tables2 .ensures) .fits
 
 -- src/lib.rt:44:1
 same-length : tie.Need-same-length
-same-length c = search needs
+same-length c = c .before .before .before .before .before .before .free-unreached .ensures .long
 
 -- src/lib.rt:44:1
 returns : tie.Need-returns
-returns c = search needs
+returns c = (c .before .before .before .before .before .before .free-unreached .ensures, (freed-shapes (c .before .before .before .before .before .before .before .before .before .before .before .before .before .pre .1) (c .before .before .before .before .before .before .free-unreached .ensures) (c .before .before .before .before .before .before .before .before .before .before .free-shapes .ensures) (c .before .before .free-shapes2 .ensures) .freed, freed-tables (c .before .before .before .before .before .before .before .before .before .before .before .before .before .pre .1) (c .before .before .before .before .before .before .free-unreached .ensures) (c .before .before .before .before .before .before .before .before .free-tables .ensures) (c .free-tables2 .ensures) .freed))
 
 pub sweep-spec : {M : Type 1} → statement M
 sweep-spec =

@@ -1,3 +1,6 @@
+use Rattle.sweep.specs.Passes.{withTables}
+use Rattle.sweep.specs.Marks.{none-marked}
+use native.Mathlib.Omega.{arith}
 use borrow.Author.Needs.{needs}
 use Rattle.sweep.proofs.passes.sweep_tables.Statement.{statement}
 use Rattle.sweep.proofs.passes.sweep_tables.Tie as tie
@@ -12,7 +15,7 @@ slice-aggregate-mark-tables c = search needs
 
 -- src/passes.rt:192:5
 mark-tables-requires : tie.Need-mark-tables-requires
-mark-tables-requires c κs = search needs
+mark-tables-requires c κs = (c .before .before .before .pre, none-marked 65536)
 
 -- src/passes.rt:193:33
 slice-aggregate-free-unmarked-tables : tie.Need-slice-aggregate-free-unmarked-tables
@@ -20,15 +23,15 @@ slice-aggregate-free-unmarked-tables c = search needs
 
 -- src/passes.rt:193:5
 free-unmarked-tables-requires : tie.Need-free-unmarked-tables-requires
-free-unmarked-tables-requires c κs = search needs
+free-unmarked-tables-requires c κs = (c .before .before .before .before .before .before .before .pre, λ t l. c .before .before .before .mark-tables .ensures t (omega (arith, c .before .before .before .before .before .before .before .pre .limited .tables)))
 
 -- src/passes.rt:183:1
 same-length : tie.Need-same-length
-same-length c = search needs
+same-length c = c .before .before .free-unmarked-tables .ensures .long
 
 -- src/passes.rt:183:1
 returns : tie.Need-returns
-returns c = search needs
+returns c = c .before .before .free-unmarked-tables .ensures
 
 pub sweep-tables-spec : {M : Type 1} → statement M
 sweep-tables-spec =
