@@ -30,7 +30,8 @@ swept-by-marks m marks says = ap (λ (stay : ℕ → Bool). sweptTo stay m) (fun
 pub passes-sweep : {start shaped tabled end : List ℕ} (marks : List ℕ)
     → ((n : ℕ) → marked marks n ≡ any (eqb n) (reached (parse start)))
     → Becomes start shaped (withShapes (parse start) (sweepShapes (marked marks) (parse start .shapes)))
-    → Becomes shaped tabled (withTables (parse shaped) (sweepTables (parse shaped .shapes) (parse shaped .tables)))
+    → Becomes shaped tabled
+    (withTables (parse shaped) (sweepTables (parse shaped .shapes) (parse shaped .tables)))
     → Becomes tabled end (withEdges (parse tabled) (map (sweepEdge (marked marks)) (parse tabled .edges)))
     → Becomes start end (swept (parse start))
 unfolding sweptTo
@@ -73,22 +74,26 @@ module _ {A : Type 0} (isFree : A → Bool) where
       let last = in-use-free ys in
       record { fits = omega arith; freed = omega arith }
 
-module _ {start end : List ℕ} (sound : Sound (parse start)) (b : Becomes start end (swept (parse start))) where
-  abbrev m : Model
-  m = parse start
+module _
+    {start end : List ℕ}
+    (sound : Sound (parse start))
+    (b : Becomes start end (swept (parse start)))
+  where
+    abbrev m : Model
+    m = parse start
 
-  pub freed-shapes : {before after : ℕ} → before ≡ length (keep freeShape (m .shapes))
-      → after ≡ length (keep freeShape (parse end .shapes))
-      → Difference freeShape before after (m .shapes) (swept m .shapes)
-  freed-shapes f g =
-      let w = swept-on-chain m sound in
-      difference freeShape (m .shapes) (swept m .shapes) _ (ap (λ (l : Limits). l .S) (w .limits))
-      (shapes-freed w) f (g ∙ ap (λ (j : Model). length (keep freeShape (j .shapes))) (b .parsed))
+    pub freed-shapes : {before after : ℕ} → before ≡ length (keep freeShape (m .shapes))
+        → after ≡ length (keep freeShape (parse end .shapes))
+        → Difference freeShape before after (m .shapes) (swept m .shapes)
+    freed-shapes f g =
+        let w = swept-on-chain m sound in
+        difference freeShape (m .shapes) (swept m .shapes) _ (ap (λ (l : Limits). l .S) (w .limits))
+        (shapes-freed w) f (g ∙ ap (λ (j : Model). length (keep freeShape (j .shapes))) (b .parsed))
 
-  pub freed-tables : {before after : ℕ} → before ≡ length (keep freeTable (m .tables))
-      → after ≡ length (keep freeTable (parse end .tables))
-      → Difference freeTable before after (m .tables) (swept m .tables)
-  freed-tables f g =
-      let w = swept-on-chain m sound in
-      difference freeTable (m .tables) (swept m .tables) _ (ap (λ (l : Limits). l .T) (w .limits))
-      (tables-freed w) f (g ∙ ap (λ (j : Model). length (keep freeTable (j .tables))) (b .parsed))
+    pub freed-tables : {before after : ℕ} → before ≡ length (keep freeTable (m .tables))
+        → after ≡ length (keep freeTable (parse end .tables))
+        → Difference freeTable before after (m .tables) (swept m .tables)
+    freed-tables f g =
+        let w = swept-on-chain m sound in
+        difference freeTable (m .tables) (swept m .tables) _ (ap (λ (l : Limits). l .T) (w .limits))
+        (tables-freed w) f (g ∙ ap (λ (j : Model). length (keep freeTable (j .tables))) (b .parsed))

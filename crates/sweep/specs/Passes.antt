@@ -85,7 +85,8 @@ module _ {A : Type 0} (d : A) (old new : List A) (same : length new ≡ length o
 
     midway-next : set (midway i old new) i (getD new i d) ≡ midway (suc i) old new
     midway-next =
-        rw (drop-cons old i d l, set-at (take i new) (getD old i d) (drop (suc i) old) (getD new i d) i front, take-suc new i d (omega arith))
+        let there = set-at (take i new) (getD old i d) (drop (suc i) old) (getD new i d) i front in
+        rw (drop-cons old i d l, there, take-suc new i d (omega arith))
         (sym (append-snoc (take i new) (getD new i d) (drop (suc i) old)))
 
 module _ {A : Type 0} {d : A} (kind : Kind d) where
@@ -125,9 +126,11 @@ module _ {A : Type 0} {d : A} (kind : Kind d) where
             ≡ kind .having m (midway (i + 1) old new)
         made =
             rw (now-has, add-one, midway-at d old new (p .long) i l, ← says)
-            (rw (midway-next d old new (p .long) i l, p .become .parsed) (kind .again m (midway i old new) (midway (suc i) old new)))
+            (rw (midway-next d old new (p .long) i l, p .become .parsed)
+            (kind .again m (midway i old new) (midway (suc i) old new)))
 
-    pub pass-end : length (kind .list (parse before)) ≤ i → Becomes before now (kind .having (parse before) new)
+    pub pass-end : length (kind .list (parse before)) ≤ i
+        → Becomes before now (kind .having (parse before) new)
     pass-end l =
         let long = p .long in
         let all = take-all i new (omega arith) in
@@ -136,7 +139,8 @@ module _ {A : Type 0} {d : A} (kind : Kind d) where
 
   -- A record that stays.
   pub stays : {ws : List ℕ} (n : ℕ) → Formed ws
-      → Becomes ws ws (kind .having (parse ws) (put (kind .list (parse ws)) n (at (kind .list (parse ws)) n d)))
+      → Becomes ws ws
+      (kind .having (parse ws) (put (kind .list (parse ws)) n (at (kind .list (parse ws)) n d)))
   stays {ws} zero f = rw (kind .same (parse ws)) (unchanged f)
   stays {ws} (suc n) f = rw (set-getD, kind .same (parse ws)) (unchanged f)
 

@@ -22,7 +22,8 @@ pub record AlsoMarks (s : Shape) (before after : List ℕ) : Type 0 where
   pub says : (t : ℕ) → t < length before → marked after t ≡ (marked before t || uses t s)
 
 module _ {s : Shape} {users : List ℕ} where
-  pub table-marked : {after : List ℕ} → s .state ≢ 0 → after ≡ set users (s .table) 1 → AlsoMarks s users after
+  pub table-marked : {after : List ℕ} → s .state ≢ 0 → after ≡ set users (s .table) 1
+      → AlsoMarks s users after
   table-marked used e =
       let its = ne-eqb (s .state) 0 used in
       rw e
@@ -41,7 +42,8 @@ pub record Users (ss : List Shape) (before users : List ℕ) (done : ℕ) : Type
   pub long : length users ≡ length before
   pub says : (t : ℕ) → t < length before → marked users t ≡ any (uses t) (take done ss)
 
-pub users-none : {ss : List Shape} {users : List ℕ} → ((t : ℕ) → marked users t ≡ false) → Users ss users users 0
+pub users-none : {ss : List Shape} {users : List ℕ} → ((t : ℕ) → marked users t ≡ false)
+    → Users ss users users 0
 users-none clear = record { within = omega arith; long = refl; says = λ t l. clear t }
 
 module _ {ss : List Shape} {before users : List ℕ} {i : ℕ} (u : Users ss before users i) where

@@ -28,7 +28,7 @@ module _ (m : Model) where
   abbrev pub Settled : List ℕ → (standing place : ℕ) → Type 0
   Settled marks p n = (marked marks n ≡ true) ⊎ ((n ≡ p) ⊎ (n ≡ 0))
 
-  -- Only shapes on the chains of held ones are marked, and with a shape its previous, but for where a walk stands.
+  -- Only shapes on the chains of held ones are marked; with a shape its previous, or a walk stands there.
   pub record Marking (marks : List ℕ) (standing : ℕ) : Type 0 where
     pub room : length (m .shapes) < length marks
     pub only : (n : ℕ) → marked marks n ≡ true → OnHeldChain m n
@@ -260,4 +260,5 @@ module _ (m : Model) where
       pub walks-all : (n : ℕ) → marked marks n ≡ any (eqb n) (reached m)
       walks-all n =
           let is = reached-on-chain m sound n in
-          same-tests (marked marks n) (any (eqb n) (reached m)) (λ h. is .1 (w .marking .only n h)) (λ h. chain-marked n (is .0 h))
+          same-tests (marked marks n) (any (eqb n) (reached m))
+          (λ h. is .1 (w .marking .only n h)) (λ h. chain-marked n (is .0 h))

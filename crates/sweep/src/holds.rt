@@ -17,7 +17,8 @@ pub fn add_hold(image: &mut [u32], n: u32)
     ensures { λ _. ⌜
         Becomes (now (image .entry)) (now (image .exit))
         (putShape (parse (now (image .entry))) n
-        (withHolds (shapeAt (parse (now (image .entry))) n) (shapeAt (parse (now (image .entry))) n .holds + 1)))
+        (withHolds (shapeAt (parse (now (image .entry))) n)
+        (shapeAt (parse (now (image .entry))) n .holds + 1)))
         ⌝ }
 {
     let mut s = get_shape(image, n);

@@ -24,8 +24,8 @@ pub struct Freed {
     pub tables: u32,
 }
 
-// "A sweep frees exactly the shapes not held and not on the previous chain of a held one, their tables when
-// unused, and their own edges; other edges to a freed shape become dead."
+// "A sweep frees exactly the shapes not held and not on the previous chain of a held one, their
+// tables when unused, and their own edges; other edges to a freed shape become dead."
 fn free_unreached(image: &mut [u32])
     requires { ⌜ Formed (now image) ⌝ }
     requires { ⌜ Sound (parse (now image)) ⌝ }
@@ -61,5 +61,8 @@ pub fn sweep(image: &mut [u32]) -> Freed
     let shapes = free_shapes(image);
     let tables = free_tables(image);
     free_unreached(image);
-    Freed { shapes: free_shapes(image) - shapes, tables: free_tables(image) - tables }
+    Freed {
+        shapes: free_shapes(image) - shapes,
+        tables: free_tables(image) - tables,
+    }
 }

@@ -8,7 +8,11 @@ pub fn is_marked(marks: &[u8], n: u32) -> bool
     ensures { λ r. ⌜ r ≡ marked (now (marks .entry)) n ⌝ }
 {
     let at = wide(n);
-    if at < marks.len() { marks[at] != 0 } else { false }
+    if at < marks.len() {
+        marks[at] != 0
+    } else {
+        false
+    }
 }
 
 pub fn mark(marks: &mut [u8], n: u32)

@@ -50,7 +50,10 @@ fn sweep_shape(image: &mut [u32], marks: &[u8], n: u32)
         properties: 0,
         prototype: 0,
         table: 0,
-        counters: Counters { property: 0, prototype: 0 },
+        counters: Counters {
+            property: 0,
+            prototype: 0,
+        },
     };
     put_shape(image, n, s);
 }
@@ -79,9 +82,21 @@ fn swept_edge(marks: &[u8], e: Edge) -> Edge
         if is_marked(marks, e.child) {
             return e;
         }
-        return Edge { parent: e.parent, kind: e.kind, label: e.label, attributes: e.attributes, child: 0 };
+        return Edge {
+            parent: e.parent,
+            kind: e.kind,
+            label: e.label,
+            attributes: e.attributes,
+            child: 0,
+        };
     }
-    Edge { parent: 0, kind: 0, label: 0, attributes: 0, child: 0 }
+    Edge {
+        parent: 0,
+        kind: 0,
+        label: 0,
+        attributes: 0,
+        child: 0,
+    }
 }
 
 fn sweep_edge(image: &mut [u32], marks: &[u8], n: u32)

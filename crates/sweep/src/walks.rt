@@ -23,7 +23,9 @@ fn walk(image: &[u32], marks: &mut [u8], from: u32)
     requires { ⌜ Sound (parse (now image)) ⌝ }
     requires { ⌜ Marking (parse (now image)) (now marks) 0 ⌝ }
     requires { ⌜ OnHeldChain (parse (now image)) from ⌝ }
-    ensures { λ _. ⌜ Walk (parse (now (image .entry))) (now (marks .entry)) (now (marks .exit)) from 0 ⌝ }
+    ensures { λ _. ⌜
+        Walk (parse (now (image .entry))) (now (marks .entry)) (now (marks .exit)) from 0
+        ⌝ }
 {
     let mut n = from;
     while n != 0 {
@@ -41,7 +43,9 @@ fn walk_if_held(image: &[u32], marks: &mut [u8], n: u32)
     requires { ⌜ Sound (parse (now image)) ⌝ }
     requires { ⌜ Marking (parse (now image)) (now marks) 0 ⌝ }
     requires { ⌜ Place (length (parse (now image) .shapes)) n ⌝ }
-    ensures { λ _. ⌜ Grown (parse (now (image .entry))) (now (marks .entry)) (now (marks .exit)) n ⌝ }
+    ensures { λ _. ⌜
+        Grown (parse (now (image .entry))) (now (marks .entry)) (now (marks .exit)) n
+        ⌝ }
 {
     let s = get_shape(image, n);
     if s.holds != 0 {
@@ -56,7 +60,8 @@ pub fn mark_reached(image: &[u32], marks: &mut [u8])
     requires { ⌜ length (parse (now image) .shapes) < length (now marks) ⌝ }
     requires { ⌜ ((n : ℕ) → marked (now marks) n ≡ false) ⌝ }
     ensures { λ _. ⌜
-        ((n : ℕ) → marked (now (marks .exit)) n ≡ any (eqb n) (reached (parse (now (image .entry)))))
+        ((n : ℕ)
+        → marked (now (marks .exit)) n ≡ any (eqb n) (reached (parse (now (image .entry)))))
         ⌝ }
 {
     let count = shape_count(image);

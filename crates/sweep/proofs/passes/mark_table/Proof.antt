@@ -1,30 +1,25 @@
-use Rattle.sweep.specs.Users.{table-marked, table-not-marked}
-use native.Mathlib.Omega.{arith}
+-- `sweep::passes::mark_table` meets its contract. Assumes nothing.
 use borrow.Author.Needs.{needs}
+use Rattle.sweep.specs.Users.{table-marked, table-not-marked}
 use Rattle.sweep.proofs.passes.mark_table.Statement.{statement}
 use Rattle.sweep.proofs.passes.mark_table.Tie as tie
-use Rattle.sweep.proofs.passes.mark_table.Reads as reads
-use Rattle.sweep.proofs.passes.mark_table.Lts as lts
-use Rattle.store.proofs.image.get_shape.Reads as get-shape-reads
-use Rattle.sweep.proofs.marks.mark.Reads as mark-reads
 
--- src/passes.rt:124:9
 get-shape-requires : tie.Need-get-shape-requires
 get-shape-requires c κs = search needs
 
--- src/passes.rt:126:9
 mark-requires : tie.Need-mark-requires
 mark-requires c κs = search needs
 
--- src/passes.rt:117:1
 same-length : tie.Need-same-length
 same-length c = search needs
 
--- src/passes.rt:117:1
 returns : tie.Need-returns
-returns c = rw (← (c .before .before .before .before .before .before .get-shape .ensures)) (table-marked (c .before .before .before .before .if1 .taken) (c .before .before .mark .ensures))
+returns c =
+    let get-shape = c .before .before .before .before .before .before .get-shape in
+    let if1 = c .before .before .before .before .if1 in
+    let mark = c .before .before .mark in
+    rw (← (get-shape .ensures)) (table-marked (if1 .taken) (mark .ensures))
 
--- src/passes.rt:117:1
 returns-2 : tie.Need-returns-2
 returns-2 c = rw (← (c .before .before .get-shape .ensures)) (table-not-marked (c .if1 .left))
 

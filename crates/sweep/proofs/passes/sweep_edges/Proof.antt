@@ -1,69 +1,69 @@
-use Prim.Native.Nat.{_+_}
+-- `sweep::passes::sweep_edges` meets its contract. Assumes nothing.
 use mathlib.Core.List.{map}
-use Rattle.store.specs.Lists.{any}
-use Rattle.rules.specs.Sound.{uses}
-use Rattle.rules.specs.Sweep.{sweepShapes, sweepTables, sweepEdge}
-use mathlib.Core.Path.{_∙_, sym, ap}
-use Rattle.store.specs.Model.{Table}
-use Rattle.store.specs.declared.Edge.{Edge}
-use Rattle.store.specs.declared.Shape.{Shape}
-use Rattle.store.specs.Model.{noShape, noEdge, free, shapeAt, tableAt, edgeAt, putShape, putTable, putEdge}
 use Prim.Native.Nat.{_-_}
-use lib.ListN.{length}
-use Rattle.store.specs.Layout.{parse}
-use Rattle.slot.specs.If.{if_then_else_}
-use Rattle.sweep.specs.Marks.{marked}
-use Rattle.sweep.specs.Passes.{kept, kept-long, kept-at, edges-long, edge-at}
-use Rattle.sweep.specs.Passes.{ofShapes, ofTables, ofEdges, Pass, pass-start, pass-next, pass-end, stays}
 use native.Mathlib.Omega.{arith}
 use borrow.Author.Needs.{needs}
+use lib.ListN.{length}
+use Rattle.store.specs.Model.{edgeAt, putEdge}
+use Rattle.store.specs.Layout.{parse}
+use Rattle.rules.specs.Sweep.{sweepEdge}
+use Rattle.sweep.specs.Marks.{marked}
+use Rattle.sweep.specs.Passes.{edges-long, edge-at, ofEdges, Pass, pass-start, pass-next, pass-end}
 use Rattle.sweep.proofs.passes.sweep_edges.Statement.{statement}
 use Rattle.sweep.proofs.passes.sweep_edges.Tie as tie
-use Rattle.sweep.proofs.passes.sweep_edges.Reads as reads
-use Rattle.sweep.proofs.passes.sweep_edges.Lts as lts
-use Rattle.store.proofs.image.edge_count.Reads as edge-count-reads
-use Rattle.sweep.proofs.passes.sweep_edge.Reads as sweep-edge-reads
 
 abbrev Inv-loop : tie.InvT-loop
-Inv-loop image₀ marks count done₀ image done = Pass ofEdges (map (sweepEdge (marked marks)) (parse image₀ .edges)) image₀ image done
+Inv-loop image₀ marks count done₀ image done =
+    Pass ofEdges (map (sweepEdge (marked marks)) (parse image₀ .edges)) image₀ image done
 
 abbrev μ-loop : tie.MeasureT-loop
 μ-loop image₀ marks count done₀ image done = length (parse image₀ .edges) - done
 
--- src/passes.rt:109:9
 edge-count-requires : tie.Need-edge-count-requires Inv-loop μ-loop
 edge-count-requires c κs = search needs
 
--- src/passes.rt:111:5
 loop-holds : tie.Need-loop-holds Inv-loop μ-loop
-loop-holds c = pass-start ofEdges _ (c .before .before .before .before .pre) (edges-long (marked (c .before .before .before .before .args .marks .now)) (parse (c .before .before .before .before .args .image .now) .edges))
+loop-holds c =
+    let pre = c .before .before .before .before .pre in
+    let args = c .before .before .before .before .args in
+    pass-start ofEdges _ pre (edges-long (marked (args .marks .now)) (parse (args .image .now) .edges))
 
--- src/passes.rt:112:34
 add-sweep-edge : tie.Need-add-sweep-edge Inv-loop μ-loop
-add-sweep-edge c = omega (arith, c .before .before .before .before .before .before .before .pre .limited .edges)
+add-sweep-edge c =
+    let pre = c .before .before .before .before .before .before .before .pre in
+    omega (arith, pre .limited .edges)
 
--- src/passes.rt:112:9
 sweep-edge-requires : tie.Need-sweep-edge-requires Inv-loop μ-loop
-sweep-edge-requires c κs = (c .before .before .loop .inv .become .formed, record { low = omega arith; high = rw (c .before .before .loop .inv .become .sizes .edges) (omega (arith, c .before .before .before .edge-count .ensures)) })
+sweep-edge-requires c κs =
+    let loop = c .before .before .loop in
+    let edge-count = c .before .before .before .edge-count in
+    let become = loop .inv .become in
+    let many = edge-count .ensures in
+    (become .formed, record { low = omega arith; high = rw (become .sizes .edges) (omega (arith, many)) })
 
--- src/passes.rt:113:9
 add-done : tie.Need-add-done Inv-loop μ-loop
-add-done c = omega (arith, c .before .before .before .before .before .before .before .before .before .before .pre .limited .edges)
+add-done c =
+    let pre = c .before .before .before .before .before .before .before .before .before .before .pre in
+    omega (arith, pre .limited .edges)
 
--- src/passes.rt:111:5
 loop-less : tie.Need-loop-less Inv-loop μ-loop
 loop-less c = omega (arith, c .before .before .before .before .before .before .edge-count .ensures)
 
--- src/passes.rt:111:5
 loop-again : tie.Need-loop-again Inv-loop μ-loop
 unfolding edgeAt putEdge
-loop-again c = pass-next ofEdges (c .before .before .before .before .before .loop .inv) (sweepEdge (marked (c .before .before .before .before .before .before .before .before .before .before .args .marks .now))) (omega (arith, c .before .before .before .before .before .before .edge-count .ensures)) (edge-at (marked (c .before .before .before .before .before .before .before .before .before .before .args .marks .now)) (parse (c .before .before .before .before .before .before .before .before .before .before .args .image .now) .edges) (c .before .before .before .before .before .loop .done)) (c .before .before .sweep-edge .ensures)
+loop-again c =
+    let loop = c .before .before .before .before .before .loop in
+    let args = c .before .before .before .before .before .before .before .before .before .before .args in
+    let edge-count = c .before .before .before .before .before .before .edge-count in
+    let sweep-edge = c .before .before .sweep-edge in
+    pass-next ofEdges (loop .inv) (sweepEdge (marked (args .marks .now)))
+    (omega (arith, edge-count .ensures))
+    (edge-at (marked (args .marks .now)) (parse (args .image .now) .edges) (loop .done))
+    (sweep-edge .ensures)
 
--- src/passes.rt:101:1
 same-length : tie.Need-same-length Inv-loop μ-loop
 same-length c = c .before .loop .inv .become .long
 
--- src/passes.rt:101:1
 returns : tie.Need-returns Inv-loop μ-loop
 returns c = pass-end ofEdges (c .before .loop .inv) (omega (arith, c .before .before .edge-count .ensures))
 
