@@ -41,7 +41,7 @@ pub record OnHeldChain (m : Model) (n : ℕ) : Type 0 where
   pub leadHere : behind m links holder ≡ n
 
 -- Place 0 leads nowhere else.
-behind-none : (m : Model) (k : ℕ) → behind m k 0 ≡ 0
+pub behind-none : (m : Model) (k : ℕ) → behind m k 0 ≡ 0
 unfolding shapeAt
 behind-none m zero = refl
 behind-none m (suc k) = behind-none m k
@@ -69,7 +69,7 @@ module _ (m : Model) (sound : Sound m) where
       go (inr u) = u
 
   -- One link more leads to its previous.
-  chain-closed : Closed m (OnHeldChain m)
+  pub chain-closed : Closed m (OnHeldChain m)
   chain-closed =
       record {
         isUsed = λ n c. c .isUsed;
@@ -143,7 +143,7 @@ module _ (m : Model) (sound : Sound m) where
         rw (passes k (shapeAt m h .previous) count p less v e) (or-true (eqb n h))
 
     -- A sweep's walks reach the shapes on the chains of the held ones.
-    reached-on-chain : (any (eqb n) (reached m) ≡ true) ↔ OnHeldChain m n
+    pub reached-on-chain : (any (eqb n) (reached m) ≡ true) ↔ OnHeldChain m n
     unfolding reached chain shapeAt
     reached-on-chain = (to, from)
       where

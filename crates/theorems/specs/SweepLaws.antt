@@ -156,18 +156,24 @@ module _ {A : Type 0} (isFree : A → Bool) (d : A) where
   stays-free out (left s e) f = ap isFree e ∙ f
   stays-free out (gone away e) f = ap isFree e ∙ out
 
--- So a sweep answers how many shapes and tables it frees: the differences in `freed` never cut off.
-pub freed-answer : {P : ℕ → Type 0} {m j : Model} → Swept P m j
-    → freed m j
-    ≡ Freed
-    (freedBetween freeShape noShape (m .shapes) (j .shapes))
-    (freedBetween freeTable free (m .tables) (j .tables))
-unfolding shapeAt tableAt
-freed-answer {m = m} {j = j} w =
-    let shapes =
-    in-use-freed freeShape noShape (m .shapes) (j .shapes) (ap (λ (l : Limits). l .S) (w .limits))
-    (λ n. stays-free freeShape noShape refl (w .shapes n)) in
-    let tables =
-    in-use-freed freeTable free (m .tables) (j .tables) (ap (λ (l : Limits). l .T) (w .limits))
-    (λ t. stays-free freeTable free refl (w .tables t)) in
-    ap₂ Freed (omega (arith, shapes)) (omega (arith, tables))
+module _ {P : ℕ → Type 0} {m j : Model} (w : Swept P m j) where
+  pub shapes-freed : inUse freeShape (m .shapes)
+      ≡ inUse freeShape (j .shapes) + freedBetween freeShape noShape (m .shapes) (j .shapes)
+  unfolding shapeAt
+  shapes-freed =
+      in-use-freed freeShape noShape (m .shapes) (j .shapes) (ap (λ (l : Limits). l .S) (w .limits))
+      (λ n. stays-free freeShape noShape refl (w .shapes n))
+
+  pub tables-freed : inUse freeTable (m .tables)
+      ≡ inUse freeTable (j .tables) + freedBetween freeTable free (m .tables) (j .tables)
+  unfolding tableAt
+  tables-freed =
+      in-use-freed freeTable free (m .tables) (j .tables) (ap (λ (l : Limits). l .T) (w .limits))
+      (λ t. stays-free freeTable free refl (w .tables t))
+
+  -- So a sweep answers how many shapes and tables it frees: the differences in `freed` never cut off.
+  pub freed-answer : freed m j
+      ≡ Freed
+      (freedBetween freeShape noShape (m .shapes) (j .shapes))
+      (freedBetween freeTable free (m .tables) (j .tables))
+  freed-answer = ap₂ Freed (omega (arith, shapes-freed)) (omega (arith, tables-freed))
