@@ -18,7 +18,7 @@ use Rattle.store.specs.Layout.{tidyTable, tidyTables}
 use Rattle.store.specs.Layout.{total, laidOut, parse, tablesOffset, tableWidth, within, rows}
 use Rattle.store.specs.ThereAndBack.{limits-parse, fits-parse, words-parse}
 use Rattle.store.specs.FreePlaces.{Area, row-at-place}
-use Rattle.store.specs.Image.{Formed, lays-length}
+use Rattle.store.specs.Image.{Formed}
 use Rattle.header.specs.HeaderLaws.{within-high}
 use Rattle.store.specs.declared.Limits.{Limits}
 
@@ -72,13 +72,6 @@ module _ (ws : List ℕ) where
             let b : Bounded (limitsOf (parse ws)) = rw limits-parse (bounded (limitsIn ws) limits) in
             record { shapes = b .shapes; tables = b .tables; keys = b .keys; edges = b .edges };
       }
-
-  -- And back.
-  pub formed-tidy : Formed ws → (goodHeader ws ≡ true) × (tidyTables ws ≡ true)
-  unfolding laidOut
-  formed-tidy f =
-      and-both (goodHeader ws)
-      (words-parse ws .1 (sym (f .laid), lays-length f ∙ ap total (limits-parse ws)))
 
   module _ (limits : goodLimits (limitsIn ws) ≡ true) (agrees : goodHeader ws ≡ true) where
     facts : (take 8 ws ≡ header (limitsIn ws)) × (length ws ≡ total (limitsIn ws))

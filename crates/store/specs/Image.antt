@@ -8,8 +8,7 @@ use native.Mathlib.Nat.{mul-le-mul-left}
 use native.Mathlib.Omega.{arith}
 use borrow.Author.Tests.{le-leb}
 use borrow.Rule.Slice.PartMut.{midOf, putMid}
-use lib.ListN.{length, getD, drop, length-append, List·getD-append}
-use lib.Seq.{getD-drop, getD-take}
+use lib.ListN.{length, getD, length-append, List·getD-append}
 use Rattle.store.specs.Lists.{at, put, every}
 use Rattle.store.specs.Model.{Table, Model, limitsOf, free, noShape, noEdge}
 use Rattle.store.specs.Model.{shapeAt, tableAt, edgeAt, putShape, putTable, putEdge}
@@ -198,13 +197,6 @@ module _
     row-put {a} {b} y e ends q n =
         let many : b - a ≡ w = omega arith in
         rw (many, e, q) (r .write y n)
-
-    -- One word of it.
-    pub row-word : (k : ℕ) → k < w → getD ws (at + k) 0 ≡ getD (lay x) k 0
-    row-word k h =
-        sym (getD-drop at ws k 0)
-        ∙ sym (getD-take w (drop at ws) k 0 h)
-        ∙ ap (λ (r : List ℕ). getD r k 0) (r .read)
 
 -- ## What an image becomes
 

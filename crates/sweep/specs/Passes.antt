@@ -1,24 +1,21 @@
 -- A pass over the records of one kind: each is replaced in turn. One law serves shapes, tables and edges.
 -- Assumes nothing.
-use mathlib.Core.Bool.{Bool, true, false, _||_, _&&_, not, or-false}
-use mathlib.Core.List.{List, [], _∷_, _++_, map, append-nil}
+use mathlib.Core.Bool.{Bool, true, false}
+use mathlib.Core.List.{List, _++_, map, append-nil}
 use mathlib.Core.Path.{_≡_, refl, sym, _∙_, ap}
 use Prim.Native.Nat.{ℕ, zero, suc, _+_, _≤_, _<_}
 use native.Mathlib.Numerals.{add-one}
 use native.Mathlib.Omega.{arith}
-use lib.Dec.{eqb}
 use lib.ListN.{length, getD, set, take, drop, length-map, drop-of-length-le}
 use lib.Seq.{take-all, take-suc, drop-cons, append-snoc, length-take-le, set-at, getD-at, set-getD}
 use Rattle.slot.specs.If.{if_then_else_}
-use Rattle.store.specs.Lists.{at, put, numbered, any}
-use Rattle.store.specs.Model.{Table, Model, free, noShape, noEdge, shapeAt, tableAt, edgeAt}
-use Rattle.store.specs.Model.{putShape, putTable, putEdge}
+use Rattle.store.specs.Lists.{at, put, numbered}
+use Rattle.store.specs.Model.{Table, Model, free, noShape, noEdge}
 use Rattle.store.specs.Layout.{parse}
 use Rattle.store.specs.PlaceLaws.{at-map, at-map-numbered, length-numbered}
 use Rattle.store.specs.Image.{Formed, Becomes, unchanged, and-then}
 use Rattle.store.specs.declared.Shape.{Shape}
 use Rattle.store.specs.declared.Edge.{Edge}
-use Rattle.rules.specs.Sound.{uses}
 use Rattle.rules.specs.Sweep.{sweepEdge, deadened}
 
 -- ## One kind of records of a model

@@ -1,10 +1,10 @@
 -- The marks of the tables that a shape uses.
 -- Assumes nothing.
-use mathlib.Core.Bool.{Bool, true, false, _||_, or-false}
+use mathlib.Core.Bool.{false, _||_, or-false}
 use mathlib.Core.List.{List, [], _∷_}
 use mathlib.Core.Logic.{_≢_}
 use mathlib.Core.Path.{_≡_, refl, sym, _∙_, ap}
-use Prim.Native.Nat.{ℕ, suc, _+_, _≤_, _<_}
+use Prim.Native.Nat.{ℕ, _+_, _≤_, _<_}
 use native.Mathlib.Numerals.{add-one}
 use native.Mathlib.Omega.{arith}
 use borrow.Author.Tests.{ne-eqb}
