@@ -2,7 +2,7 @@
 """The independent count for the program `damage`: document 01's sentences, applied to each changed image.
 
 Reads the image's words, the program's input, and prints what the program should print.
-Shares nothing with the definitions or the code: only document 01 was at hand.
+Written from document 01's sentences; it shares nothing with the definitions or the code.
 """
 import sys
 from collections import Counter
