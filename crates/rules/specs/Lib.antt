@@ -2,6 +2,7 @@ pub mod Numbers
 pub mod Shapes
 pub mod Refusals
 pub mod Steps
+pub mod Placing
 pub mod Sound
 pub mod Unique
 pub mod Sweep

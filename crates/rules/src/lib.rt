@@ -22,3 +22,18 @@ pub enum ChangeTransitionAction {
     Remove,
     Insert,
 }
+
+// One step of a trail: document 01's step kind, the key or the prototype, and the attributes.
+pub struct StepRecord {
+    // 0 insert, 1 configure, 2 prototype
+    pub kind: u32,
+    pub label: u32,
+    // not looked at for a prototype
+    pub attributes: u32,
+}
+
+// What a rule gives in the lent image: the place of a shape, or a refusal.
+pub enum Placement {
+    At(u32),
+    Refused(Refusal),
+}
