@@ -5,8 +5,10 @@ use mathlib.Core.Path.{_≡_}
 use Prim.Native.Nat.{ℕ}
 use lib.Dec.{eqb}
 use Rattle.slot.specs.If.{if_then_else_}
+use Rattle.store.specs.Model.{Model}
 use Rattle.store.specs.Image.{Becomes}
 use Rattle.rules.specs.declared.StepRecord.{StepRecord}
+use Rattle.rules.specs.declared.Refusal.{Refusal}
 use Rattle.rules.specs.declared.Placement.{Placement}
 use Rattle.rules.specs.declared.Placement.the-variants.{At, Refused}
 use Rattle.rules.specs.Refusals.{Got, ok, refused}
@@ -19,7 +21,13 @@ stepIn t =
     else if eqb (t .kind) 1 then configure (t .label) (t .attributes)
     else prototype (t .label)
 
--- "Every one .. leaves all lent words unchanged, prunes included."
+-- A result is written, and answered as `given` says it; "Every one" of the refusals "leaves all lent words
+-- unchanged, prunes included".
+abbrev pub Does : {A R : Type 0} → (given : A → R) (denied : Refusal → R) → (before after : List ℕ)
+    → Got (Model × A) → R → Type 0
+Does given denied before after (ok (m, a)) r = Becomes before after m × (r ≡ given a)
+Does given denied before after (refused x) r = (after ≡ before) × (r ≡ denied x)
+
+-- A rule of a shape.
 abbrev pub Places : (before after : List ℕ) → Got Placed → Placement → Type 0
-Places before after (ok (m, n)) r = Becomes before after m × (r ≡ At n)
-Places before after (refused x) r = (after ≡ before) × (r ≡ Refused x)
+Places = Does At Refused

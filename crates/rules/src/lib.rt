@@ -1,5 +1,7 @@
-// The names that document 01 gives its refusals, and shape/mod.rs its actions.
+// The names that document 01 gives its refusals, and shape/mod.rs its actions; and what calls answer.
 // Code and definitions share them.
+use slot::Slot;
+
 pub enum Refusal {
     Damaged,
     BadKey,
@@ -35,5 +37,49 @@ pub struct StepRecord {
 // What a rule gives in the lent image: the place of a shape, or a refusal.
 pub enum Placement {
     At(u32),
+    Refused(Refusal),
+}
+
+// A shape that a call gives, with one hold more.
+pub struct GivenShape {
+    pub shape: u32,
+    pub action: ChangeTransitionAction,
+    pub transitions: u32,
+}
+
+// How many shapes and tables a sweep has freed.
+pub struct FreedPlaces {
+    pub shapes: u32,
+    pub tables: u32,
+}
+
+pub enum ShapeReply {
+    Gives(GivenShape),
+    Refused(Refusal),
+}
+
+pub enum ReleaseReply {
+    Releases,
+    Refused(Refusal),
+}
+
+pub enum SweepReply {
+    Frees(FreedPlaces),
+    Refused(Refusal),
+}
+
+pub enum LookupReply {
+    Finds(Slot),
+    FindsNothing,
+    Refused(Refusal),
+}
+
+pub enum KeysReply {
+    Lists(u32),
+    Refused(Refusal),
+}
+
+pub enum NumberReply {
+    Is(u32),
     Refused(Refusal),
 }
