@@ -1,6 +1,17 @@
 // The names that document 01 gives its refusals, and shape/mod.rs its actions; and what calls answer.
 // Code and definitions share them.
 use slot::Slot;
+ghost use mathlib.Core.Path.{_≡_};
+ghost use Rattle.rules.specs.Numbers.{goodKey};
+
+const ONE_KIND: u32 = 1 << 30;
+
+// Kinds 0 to 2 are strings, symbols and indexes.
+pub fn good_key(key: u32) -> bool
+    ensures { λ r. ⌜ r ≡ goodKey key ⌝ }
+{
+    key / ONE_KIND < 3
+}
 
 pub enum Refusal {
     Damaged,
