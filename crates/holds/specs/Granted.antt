@@ -1,18 +1,17 @@
 -- A hold for what a rule has placed, and the laws of each way out.
 -- Assumes nothing.
-use mathlib.Core.Bool.{Bool, true, false, not, _||_, true≢false}
+use mathlib.Core.Bool.{Bool, true, false, not, true≢false}
 use mathlib.Core.List.{List}
-use mathlib.Core.Logic.{inl, inr, _≢_}
+use mathlib.Core.Logic.{inl, inr}
 use mathlib.Core.Path.{_≡_, refl, sym, _∙_, ap}
 use Prim.Native.Nat.{ℕ, zero, suc, _+_, _-_, _≤_, _<_}
 use native.Mathlib.Omega.{arith}
 use borrow.Author.Tests.{leb-true, ne-eqb, le-leb, lt-leb, not-true, not-false}
 use lib.Dec.{eqb, leb}
 use lib.ListN.{length}
-use Rattle.store.specs.Model.{Model, shapeAt, putShape, noShape, freeShape}
+use Rattle.store.specs.Model.{Model, shapeAt, putShape, freeShape}
 use Rattle.store.specs.Layout.{words, parse}
 use Rattle.store.specs.Image.{Formed, Place, Becomes, unchanged, and-then}
-use Rattle.store.specs.PlaceLaws.{at-inside}
 use Rattle.store.specs.ListLaws.{Decided, either, or-none}
 use Rattle.store.specs.declared.Shape.{Shape}
 use Rattle.rules.specs.declared.ChangeTransitionAction.{ChangeTransitionAction}
@@ -27,7 +26,7 @@ use Rattle.rules.specs.Calls.{release}
 use Rattle.rules.specs.Steps.{Placed}
 use Rattle.rules.specs.Placing.{Places}
 use Rattle.rules.specs.Replies.{Answers}
-use Rattle.theorems.specs.Facts.{Used, Sound}
+use Rattle.theorems.specs.Facts.{Used, Sound, used-place-inside}
 use Rattle.theorems.specs.Changes.{may-act}
 use Rattle.theorems.specs.CallsKeep.{previous-gives}
 
@@ -47,10 +46,6 @@ module _ (m : Model) (n : ℕ) where
   abbrev its : Shape
   its = shapeAt m n
 
-  inside : freeShape its ≡ false → Place (length (m .shapes)) n
-  unfolding shapeAt
-  inside u = let (low, high) = at-inside freeShape (m .shapes) n noShape refl u in record { low = low; high = high }
-
   -- "NoShape: place 0, above S, free"
   pub no-place : n ≡ 0 → false ≡ not (unheld m n)
   unfolding shapeAt
@@ -61,7 +56,7 @@ module _ (m : Model) (n : ℕ) where
     where
       go : Decided (freeShape its) → false ≡ not (unheld m n)
       go (inl f) = rw f
-      go (inr u) = absurd (omega (arith, inside u .high))
+      go (inr u) = absurd (omega (arith, used-place-inside m n u .high))
 
   module _ {s : Shape} (read : s ≡ its) where
     pub free-there : s .state ≡ 0 → not (eqb (s .state) 0) ≡ not (unheld m n)
@@ -85,7 +80,7 @@ module _ (m : Model) (n : ℕ) where
 
   module _ (may : unheld m n ≡ false) where
     pub held-place : Place (length (m .shapes)) n
-    held-place = inside (or-none (freeShape its) may .0)
+    held-place = used-place-inside m n (or-none (freeShape its) may .0)
 
     pub some-holds : 1 ≤ its .holds
     some-holds = go (its .holds) (or-none (freeShape its) may .1)
@@ -148,7 +143,7 @@ module _ {before : List ℕ} (formed : Formed before) (n : ℕ) where
           let acts = may-act model sound n may in
           let other = ne-eqb (s .previous) 0 some in
           let there = previous-gives model sound n (acts .isUsed) (rw (← read) other) .isUsed in
-          rw read (inside model (shapeAt model n .previous) there)
+          rw read (used-place-inside model (shapeAt model n .previous) there)
 
     pub released : {s : Shape} {after : List ℕ} → s ≡ shapeAt model n
         → Becomes before after (putShape model n (withHolds s (s .holds - 1)))
@@ -168,18 +163,18 @@ module _ (before between : List ℕ) (formed : Formed before) (rule : Got Placed
       go : (g : Got Placed) (p : Placement) → Places before between g p
           → ((y : Placed) → g ≡ ok y → Used (y .0) (y .1)) → Formed between × InPlace (parse between) p
       go (ok (m, n)) p (became, at) inUse =
-          rw (at, became .parsed) (rw (← became .parsed) (became .formed), inside m n (inUse (m, n) refl))
+          rw (at, became .parsed) (rw (← became .parsed) (became .formed), used-place-inside m n (inUse (m, n) refl))
       go (refused r) p (same, denied) inUse = rw (same, denied) (formed, tt)
 
   -- A result that has all its holds was there before, and nothing has been written.
   pub rule-granted : (action : ChangeTransitionAction) (after : List ℕ) (reply : Reply)
-      → ((y : Placed) → rule ≡ ok y → shapeAt (y .0) (y .1) .holds ≢ 0 → y .0 ≡ parse before)
+      → ((y : Placed) → rule ≡ ok y → 65535 ≤ shapeAt (y .0) (y .1) .holds → y .0 ≡ parse before)
       → Answers between after (grantPlaced action (parse between) p) reply
       → Answers before after (rule >>= grant action) reply
   rule-granted action after reply there granted = go rule p did there granted
     where
       go : (g : Got Placed) (p : Placement) → Places before between g p
-          → ((y : Placed) → g ≡ ok y → shapeAt (y .0) (y .1) .holds ≢ 0 → y .0 ≡ parse before)
+          → ((y : Placed) → g ≡ ok y → 65535 ≤ shapeAt (y .0) (y .1) .holds → y .0 ≡ parse before)
           → Answers between after (grantPlaced action (parse between) p) reply
           → Answers before after (g >>= grant action) reply
       go (refused r) p (same, denied) there granted = rw (denied, same) at granted
@@ -192,8 +187,7 @@ module _ (before between : List ℕ) (formed : Formed before) (rule : Got Placed
           full : Decided (leb 65535 (s .holds)) → Answers between after (grant action (m, n)) reply
               → Answers before after (grant action (m, n)) reply
           full (inl most) granted =
-              let many = leb-true 65535 (s .holds) most in
-              let same = there (m, n) refl (λ z. omega arith) in
+              let same = there (m, n) refl (leb-true 65535 (s .holds) most) in
               let back : between ≡ before = became .laid ∙ ap words same ∙ sym (formed .laid) in
               rw (most, ← back) (rw most at granted)
           full (inr few) granted =

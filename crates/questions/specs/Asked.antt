@@ -1,29 +1,26 @@
 -- What questions answer: the laws of each way out.
 -- Assumes nothing.
-use mathlib.Core.Bool.{Bool, true, false, not}
+use mathlib.Core.Bool.{true, false}
 use mathlib.Core.List.{List, _++_}
-use mathlib.Core.Path.{_≡_, refl, sym, _∙_, ap, ap₂}
+use mathlib.Core.Path.{_≡_, refl, ap₂}
 use Prim.Native.Nat.{ℕ, _≤_, _<_}
-use borrow.Author.Tests.{eq-eqb, ne-eqb, lt-ltb, le-ltb, not-true, not-false}
-use lib.Dec.{eqb, ltb}
+use borrow.Author.Tests.{eq-eqb, ne-eqb, lt-ltb, le-ltb}
 use lib.ListN.{length, take, drop}
-use Rattle.slot.specs.If.{if_then_else_}
-use Rattle.store.specs.Model.{Model, shapeAt, tableAt, free, used, freeTable}
+use Rattle.store.specs.Model.{Model, shapeAt, tableAt, used}
 use Rattle.store.specs.Layout.{parse}
 use Rattle.store.specs.Image.{Formed, Place, unchanged}
-use Rattle.store.specs.PlaceLaws.{at-inside}
 use Rattle.store.specs.declared.Shape.{Shape}
 use Rattle.store.specs.declared.Entry.{Entry}
 use Rattle.rules.specs.declared.Refusal.the-variants.{BadKey, NoShape, OutShort}
 use Rattle.rules.specs.Numbers.{goodKey}
-use Rattle.rules.specs.Shapes.{entries, tableOf, shared}
-use Rattle.rules.specs.Refusals.{Got, ok, refused, _>>_, refuse}
+use Rattle.rules.specs.Shapes.{entries, tableOf}
+use Rattle.rules.specs.Refusals.{Got, ok, refused}
 use Rattle.rules.specs.Sweep.{keyList}
 use Rattle.rules.specs.Calls.{Answer, Given, Freed, Done, Found, NotFound, Listed, Number, No, Yes, unheld}
 use Rattle.rules.specs.Calls.{perform}
 use Rattle.rules.specs.Calls.{lookup, keysInto, prototypeOf, isShared, transitionsOf, propertiesOf}
 use Rattle.rules.specs.Replies.{Answers}
-use Rattle.theorems.specs.Facts.{ShapeSound, Sound, used-table}
+use Rattle.theorems.specs.Facts.{ShapeSound, Sound, used-table, used-table-inside}
 use Rattle.theorems.specs.Changes.{may-act}
 use Rattle.property_table.specs.Slotted.{Slotted, good-slotted}
 use Rattle.property_table.specs.Copies.{entriesIn}
@@ -52,9 +49,8 @@ pub record Readable (m : Model) (s : Shape) : Type 0 where
 
 pub readable : {m : Model} {s : Shape} → Sound m → (n : ℕ) → unheld m n ≡ false → s ≡ shapeAt m n
     → Readable m s
-unfolding tableAt
 readable {m} {s} sound n may read = rw read record {
-  place = record { low = inside .0; high = inside .1 };
+  place = used-table-inside m (there .table) (its .tableUsed);
   count = its .countFits;
   slotted = good-slotted (tableOf m there) (sound .tables (there .table) (tableOf m there) inUse .good);
 }
@@ -64,9 +60,6 @@ readable {m} {s} sound n may read = rw read record {
 
     its : ShapeSound m n there
     its = sound .shapes n (may-act m sound n may .isUsed)
-
-    inside : (1 ≤ there .table) × (there .table ≤ length (m .tables))
-    inside = at-inside freeTable (m .tables) (there .table) free refl (its .tableUsed)
 
     inUse : tableAt m (there .table) ≡ used (tableOf m there)
     inUse = used-table (tableAt m (there .table)) (its .tableUsed)
@@ -120,7 +113,8 @@ module _ {ws : List ℕ} (formed : Formed ws) (n : ℕ) (may : unheld (parse ws)
       es = take (s .properties) (entriesIn ws (s .table))
 
       pub lookup-finds : {p : Property} → lookedUp k 0 es ≡ At p
-          → Answers ws ws (perform model (lookup n k)) (Yes (Found (p .slot .index .0) (p .slot .attributes .0)))
+          → let s = p .slot in
+          Answers ws ws (perform model (lookup n k)) (Yes (Found (s .index .0) (s .attributes .0)))
       unfolding perform
       lookup-finds {p} looked =
           let h = looked-held {k = k} {es = es} looked in
@@ -129,7 +123,9 @@ module _ {ws : List ℕ} (formed : Formed ws) (n : ℕ) (may : unheld (parse ws)
       pub lookup-finds-nothing : lookedUp k 0 es ≡ Nothing
           → Answers ws ws (perform model (lookup n k)) (Yes NotFound)
       unfolding perform
-      lookup-finds-nothing looked = rw (good, may, ← read, looked-absent {k = k} {es = es} looked .answer) (unchanged formed, refl)
+      lookup-finds-nothing looked =
+          let h = looked-absent {k = k} {es = es} looked in
+          rw (good, may, ← read, h .answer) (unchanged formed, refl)
 
     module _ (out : List ℕ) where
       abbrev ks : List ℕ

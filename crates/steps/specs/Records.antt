@@ -3,7 +3,7 @@
 use mathlib.Core.List.{List, [], _∷_, map}
 use mathlib.Core.Path.{_≡_, refl, ap}
 use Prim.Native.Nat.{ℕ, zero, suc, _+_, _-_, _*_, _/_, _<_, _≤_}
-use native.Mathlib.Nat.{mul-zero, not-suc-le-zero, le-of-suc-le-suc}
+use native.Mathlib.Nat.{not-suc-le-zero, le-of-suc-le-suc}
 use native.Mathlib.Omega.{arith}
 use borrow.Rule.Slice.PartMut.{midOf, putMid}
 use lib.ListN.{length, getD, set, drop}
