@@ -6,7 +6,7 @@ use mathlib.Core.Logic.{inl, inr}
 use mathlib.Core.Path.{_≡_, refl, sym, _∙_, ap}
 use Prim.Native.Nat.{ℕ, zero, suc, _+_, _-_, _≤_, _<_}
 use native.Mathlib.Omega.{arith}
-use borrow.Author.Tests.{leb-true, ne-eqb, le-leb, lt-leb, not-true, not-false}
+use borrow.Author.Tests.{leb-true, leb-false, ne-eqb, not-true, not-false}
 use lib.Dec.{eqb, leb}
 use lib.ListN.{length}
 use Rattle.store.specs.Model.{Model, shapeAt, putShape, freeShape}
@@ -91,18 +91,22 @@ module _ (m : Model) (n : ℕ) where
 
 -- ## One hold more
 
-module _ {before : List ℕ} (formed : Formed before) (n : ℕ) (action : ChangeTransitionAction) where
+pub room-for-one : {x s : Shape} {full : Bool} → s ≡ x → full ≡ leb 65535 (x .holds) → full ≡ false
+    → s .holds < 65535
+room-for-one {x} read test few = rw read (leb-false 65535 (x .holds) (sym test ∙ few))
+
+module _ (before : List ℕ) (n : ℕ) (action : ChangeTransitionAction) where
   abbrev m : Model
   m = parse before
 
-  pub full-refused : {s : Shape} → s ≡ shapeAt m n → 65535 ≤ s .holds
-      → Answers before before (grant action (m, n)) (No HoldsFull)
-  full-refused {s} read full = rw (← read, le-leb 65535 (s .holds) full) (refl, refl)
+  module _ {full : Bool} (test : full ≡ leb 65535 (shapeAt m n .holds)) where
+    pub full-refused : full ≡ true → Answers before before (grant action (m, n)) (No HoldsFull)
+    full-refused most = rw (← test, most) (refl, refl)
 
-  pub hold-granted : {s : Shape} {after : List ℕ} → s ≡ shapeAt m n → s .holds < 65535
-      → Becomes before after (putShape m n (withHolds s (s .holds + 1)))
-      → Answers before after (grant action (m, n)) (Yes (Given n action (s .transitions)))
-  hold-granted {s} read few done = rw (← read, lt-leb 65535 (s .holds) few) (done, refl)
+    module _ (few : full ≡ false) {s : Shape} (read : s ≡ shapeAt m n) where
+      pub hold-granted : {after : List ℕ} → Becomes before after (putShape m n (withHolds s (s .holds + 1)))
+          → Answers before after (grant action (m, n)) (Yes (Given n action (s .transitions)))
+      hold-granted done = rw (← test, few, ← read) (done, refl)
 
 -- ## The calls
 

@@ -10,7 +10,9 @@ use store::image::put_shape;
 use store::image::shape_count;
 ghost use mathlib.Core.Path.{_≡_};
 ghost use mathlib.Core.Bool.{not};
+ghost use lib.Dec.{leb};
 ghost use lib.ListN.{length};
+ghost use Rattle.store.specs.Model.{shapeAt};
 ghost use Rattle.store.specs.Layout.{parse};
 ghost use Rattle.store.specs.Image.{Formed, Place};
 ghost use Rattle.rules.specs.Calls.{unheld, grant, perform, hold, previous, release};
@@ -34,6 +36,15 @@ pub fn is_held(image: &[u32], n: u32) -> bool
     s.state != 0 && s.holds != 0
 }
 
+pub fn is_full(image: &[u32], n: u32) -> bool
+    requires { ⌜ Formed (now image) ⌝ }
+    requires { ⌜ Place (length (parse (now image) .shapes)) n ⌝ }
+    ensures { λ r. ⌜ r ≡ leb 65535 (shapeAt (parse (now (image .entry))) n .holds) ⌝ }
+{
+    let s = get_shape(image, n);
+    s.holds >= MOST_HOLDS
+}
+
 // "A call that returns a shape adds one hold to it".
 pub fn grant(image: &mut [u32], n: u32, action: ChangeTransitionAction) -> ShapeReply
     requires { ⌜ Formed (now image) ⌝ }
@@ -43,10 +54,10 @@ pub fn grant(image: &mut [u32], n: u32, action: ChangeTransitionAction) -> Shape
         (grant action (parse (now (image .entry)), n)) (shapeReply r)
         ⌝ }
 {
-    let mut s = get_shape(image, n);
-    if s.holds >= MOST_HOLDS {
+    if is_full(image, n) {
         return ShapeReply::Refused(Refusal::HoldsFull);
     }
+    let mut s = get_shape(image, n);
     let transitions = s.transitions;
     s.holds += 1;
     put_shape(image, n, s);

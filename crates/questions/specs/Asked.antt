@@ -107,26 +107,26 @@ module _ {ws : List ℕ} (formed : Formed ws) (n : ℕ) (may : unheld (parse ws)
   abbrev model : Model
   model = parse ws
 
+  module _ (k : ℕ) (good : goodKey k ≡ true) where
+    abbrev es : List Entry
+    es = entries model (shapeAt model n)
+
+    pub lookup-finds : {p : Property} → lookedUp k 0 es ≡ At p
+        → let s = p .slot in
+        Answers ws ws (perform model (lookup n k)) (Yes (Found (s .index .0) (s .attributes .0)))
+    unfolding perform
+    lookup-finds looked =
+        let h = looked-held {k = k} {es = es} looked in
+        rw (good, may, h .answer, h .slot) (unchanged formed, refl)
+
+    pub lookup-finds-nothing : lookedUp k 0 es ≡ Nothing
+        → Answers ws ws (perform model (lookup n k)) (Yes NotFound)
+    unfolding perform
+    lookup-finds-nothing looked =
+        let h = looked-absent {k = k} {es = es} looked in
+        rw (good, may, h .answer) (unchanged formed, refl)
+
   module _ {s : Shape} (read : s ≡ shapeAt model n) where
-    module _ (k : ℕ) (good : goodKey k ≡ true) where
-      abbrev es : List Entry
-      es = take (s .properties) (entriesIn ws (s .table))
-
-      pub lookup-finds : {p : Property} → lookedUp k 0 es ≡ At p
-          → let s = p .slot in
-          Answers ws ws (perform model (lookup n k)) (Yes (Found (s .index .0) (s .attributes .0)))
-      unfolding perform
-      lookup-finds {p} looked =
-          let h = looked-held {k = k} {es = es} looked in
-          rw (good, may, ← read, h .answer, h .slot) (unchanged formed, refl)
-
-      pub lookup-finds-nothing : lookedUp k 0 es ≡ Nothing
-          → Answers ws ws (perform model (lookup n k)) (Yes NotFound)
-      unfolding perform
-      lookup-finds-nothing looked =
-          let h = looked-absent {k = k} {es = es} looked in
-          rw (good, may, ← read, h .answer) (unchanged formed, refl)
-
     module _ (out : List ℕ) where
       abbrev ks : List ℕ
       ks = keyList (take (s .properties) (entriesIn ws (s .table)))

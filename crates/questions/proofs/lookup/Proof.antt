@@ -1,9 +1,8 @@
 -- `questions::lookup` meets its contract. Assumes nothing.
 use borrow.Author.Tests.{not-true, not-false}
 use mathlib.Core.Path.{sym, _∙_}
-use Rattle.holds.specs.Granted.{not-held, may-name, held-place}
-use Rattle.questions.specs.Asked.{readable, bad-key, lookup-refused, lookup-finds}
-use Rattle.questions.specs.Asked.{lookup-finds-nothing}
+use Rattle.holds.specs.Granted.{not-held, may-name}
+use Rattle.questions.specs.Asked.{bad-key, lookup-refused, lookup-finds, lookup-finds-nothing}
 use borrow.Author.Needs.{needs}
 use Rattle.questions.proofs.lookup.Statement.{statement}
 use Rattle.questions.proofs.lookup.Tie as tie
@@ -25,19 +24,11 @@ returns-2 c =
     lookup-refused _ _ (not-held _ _ (is-held .ensures) (c .if2 .taken)) _ (sym (good-key .ensures) ∙
     not-false _ (if1 .left))
 
-get-shape-requires : tie.Need-get-shape-requires
-get-shape-requires c κs =
+property-requires : tie.Need-property-requires
+property-requires c κs =
     let is-held = c .before .is-held in
     let pre = c .before .before .before .before .before .pre in
-    (pre .0, held-place _ _ (may-name _ _ (is-held .ensures) (c .if2 .left)))
-
-lookup-requires : tie.Need-lookup-requires
-lookup-requires c κs =
-    let if2 = c .before .if2 in
-    let is-held = c .before .before .is-held in
-    let pre = c .before .before .before .before .before .before .pre in
-    let table = readable (pre .1) _ (may-name _ _ (is-held .ensures) (if2 .left)) (c .get-shape .ensures) in
-    (pre .0, (table .place, (table .count, table .slotted)))
+    (pre .0, (pre .1, (may-name _ _ (is-held .ensures) (c .if2 .left))))
 
 enum-known-p : tie.Need-enum-known-p
 enum-known-p c = search needs
@@ -48,27 +39,25 @@ enum-told c = search needs
 returns-3 : tie.Need-returns-3
 returns-3 c =
     let p = c .before .before .p in
-    let lookup = c .before .before .before .before .lookup in
-    let get-shape = c .before .before .before .before .before .get-shape in
-    let if2 = c .before .before .before .before .before .before .if2 in
-    let is-held = c .before .before .before .before .before .before .before .is-held in
-    let if1 = c .before .before .before .before .before .before .before .before .if1 in
-    let good-key = c .before .before .before .before .before .before .before .before .before .good-key in
-    let pre = c .before .before .before .before .before .before .before .before .before .before .before .pre in
-    lookup-finds (pre .0) _ (may-name _ _ (is-held .ensures) (if2 .left)) (get-shape .ensures) _ (sym
-    (good-key .ensures) ∙ not-false _ (if1 .left)) (sym (lookup .ensures) ∙ p .given .1)
+    let property = c .before .before .before .before .property in
+    let if2 = c .before .before .before .before .before .if2 in
+    let is-held = c .before .before .before .before .before .before .is-held in
+    let if1 = c .before .before .before .before .before .before .before .if1 in
+    let good-key = c .before .before .before .before .before .before .before .before .good-key in
+    let pre = c .before .before .before .before .before .before .before .before .before .before .pre in
+    lookup-finds (pre .0) _ (may-name _ _ (is-held .ensures) (if2 .left)) _ (sym (good-key .ensures) ∙
+    not-false _ (if1 .left)) (sym (property .ensures) ∙ p .given .1)
 
 returns-4 : tie.Need-returns-4
 returns-4 c =
-    let lookup = c .before .before .lookup in
-    let get-shape = c .before .before .before .get-shape in
-    let if2 = c .before .before .before .before .if2 in
-    let is-held = c .before .before .before .before .before .is-held in
-    let if1 = c .before .before .before .before .before .before .if1 in
-    let good-key = c .before .before .before .before .before .before .before .good-key in
-    let pre = c .before .before .before .before .before .before .before .before .before .pre in
-    lookup-finds-nothing (pre .0) _ (may-name _ _ (is-held .ensures) (if2 .left)) (get-shape .ensures) _
-    (sym (good-key .ensures) ∙ not-false _ (if1 .left)) (sym (lookup .ensures) ∙ c .enum-told .given .1)
+    let property = c .before .before .property in
+    let if2 = c .before .before .before .if2 in
+    let is-held = c .before .before .before .before .is-held in
+    let if1 = c .before .before .before .before .before .if1 in
+    let good-key = c .before .before .before .before .before .before .good-key in
+    let pre = c .before .before .before .before .before .before .before .before .pre in
+    lookup-finds-nothing (pre .0) _ (may-name _ _ (is-held .ensures) (if2 .left)) _ (sym
+    (good-key .ensures) ∙ not-false _ (if1 .left)) (sym (property .ensures) ∙ c .enum-told .given .1)
 
 pub lookup-spec : {M : Type 1} → statement M
 lookup-spec =
@@ -78,8 +67,7 @@ lookup-spec =
     returns
     is-held-requires
     returns-2
-    get-shape-requires
-    lookup-requires
+    property-requires
     enum-known-p
     enum-told
     returns-3
