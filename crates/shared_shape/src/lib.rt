@@ -4,7 +4,6 @@ use plan::Planned;
 use plan::plan_limited;
 use property_table::OptionalProperty;
 use property_table::lookup;
-use rollback::Replay;
 use rollback::change_steps;
 use rollback::removal_steps;
 use rules::Placement;
@@ -13,6 +12,23 @@ use shared_step::take_steps;
 use slot::SlotAttributes;
 use steps::put_step;
 use store::image::get_shape;
+ghost use mathlib.Core.Path.{_≡_};
+ghost use mathlib.Core.Bool.{true};
+ghost use Prim.Native.Nat.{_≤_, _<_};
+ghost use lib.ListN.{length, drop};
+ghost use Rattle.slot.specs.Attributes.{sameWidth};
+ghost use Rattle.store.specs.Layout.{parse};
+ghost use Rattle.store.specs.Image.{Formed};
+ghost use Rattle.rules.specs.Numbers.{goodKey};
+ghost use Rattle.rules.specs.Shapes.{has, attributesIn};
+ghost use Rattle.rules.specs.Refusals.{_>>=_};
+ghost use Rattle.rules.specs.Steps.{insert, prototype, step, steps, limited, removeShared, changeShared};
+ghost use Rattle.rules.specs.Placing.{stepIn, Places};
+ghost use Rattle.steps.specs.Records.{records, stepsIn};
+ghost use Rattle.theorems.specs.Facts.{Sound};
+ghost use Rattle.theorems.specs.Child.{Legal};
+ghost use Rattle.theorems.specs.Made.{SharedAt, entriesAt, transitionsAt};
+ghost use Rattle.plan.specs.PlanRight.{LegalSteps};
 
 const INSERT: u32 = 0;
 
@@ -28,7 +44,8 @@ fn limited(image: &mut [u32], n: u32) -> Placement
     requires { ⌜ Sound (parse (now image)) ⌝ }
     requires { ⌜ SharedAt (parse (now image)) n ⌝ }
     ensures { λ r. ⌜
-        Places (now (image .entry)) (now (image .exit)) (limited (parse (now (image .entry)), n)) r
+        Places (now (image .entry)) (now (image .exit))
+        (limited (parse (now (image .entry)), n)) r
         ⌝ }
 {
     let s = get_shape(image, n);
@@ -38,7 +55,7 @@ fn limited(image: &mut [u32], n: u32) -> Placement
     Placement::At(n)
 }
 
-// The steps from row `start` on; a refusal is found before anything is written.
+// The steps from row `start` on: a refusal is found before anything is written.
 fn transition(image: &mut [u32], from: u32, steps: &[u32], start: usize) -> Placement
     requires { ⌜ Formed (now image) ⌝ }
     requires { ⌜ Sound (parse (now image)) ⌝ }
@@ -57,4 +74,149 @@ fn transition(image: &mut [u32], from: u32, steps: &[u32], start: usize) -> Plac
             limited(image, n)
         }
     }
+}
+
+fn one_step(image: &mut [u32], n: u32, t: StepRecord) -> Placement
+    requires { ⌜ Formed (now image) ⌝ }
+    requires { ⌜ Sound (parse (now image)) ⌝ }
+    requires { ⌜ Legal (parse (now image)) n (stepIn t) ⌝ }
+    ensures { λ r. ⌜
+        Places (now (image .entry)) (now (image .exit))
+        (step (parse (now (image .entry))) n (stepIn t) >>= limited) r
+        ⌝ }
+{
+    let mut steps = [0u32; 3];
+    put_step(&mut steps, 0, t);
+    transition(image, n, &steps, 0)
+}
+
+pub fn insert_property_transition(
+    image: &mut [u32],
+    n: u32,
+    key: u32,
+    attributes: SlotAttributes,
+) -> Placement
+    requires { ⌜ Formed (now image) ⌝ }
+    requires { ⌜ Sound (parse (now image)) ⌝ }
+    requires { ⌜ Legal (parse (now image)) n (insert key (attributes .0)) ⌝ }
+    ensures { λ r. ⌜
+        Places (now (image .entry)) (now (image .exit))
+        (step (parse (now (image .entry))) n (insert key (attributes .0)) >>= limited) r
+        ⌝ }
+{
+    one_step(
+        image,
+        n,
+        StepRecord {
+            kind: INSERT,
+            label: key,
+            attributes: attributes.0 as u32,
+        },
+    )
+}
+
+// A step is made though the prototype is unchanged.
+pub fn change_prototype_transition(image: &mut [u32], n: u32, to: u32) -> Placement
+    requires { ⌜ Formed (now image) ⌝ }
+    requires { ⌜ Sound (parse (now image)) ⌝ }
+    requires { ⌜ Legal (parse (now image)) n (prototype to) ⌝ }
+    ensures { λ r. ⌜
+        Places (now (image .entry)) (now (image .exit))
+        (step (parse (now (image .entry))) n (prototype to) >>= limited) r
+        ⌝ }
+{
+    one_step(
+        image,
+        n,
+        StepRecord {
+            kind: PROTOTYPE,
+            label: to,
+            attributes: 0,
+        },
+    )
+}
+
+// The rows take as many steps as a shared shape can have transitions.
+pub fn remove_property_transition(image: &mut [u32], n: u32, key: u32) -> Placement
+    requires { ⌜ Formed (now image) ⌝ }
+    requires { ⌜ Sound (parse (now image)) ⌝ }
+    requires { ⌜ SharedAt (parse (now image)) n ⌝ }
+    requires { ⌜ has key (entriesAt (parse (now image)) n) ≡ true ⌝ }
+    ensures { λ r. ⌜
+        Places (now (image .entry)) (now (image .exit))
+        (removeShared (parse (now (image .entry))) n key >>= limited) r
+        ⌝ }
+{
+    let mut steps = [0u32; 3072];
+    let replay = removal_steps(image, n, key, &mut steps);
+    transition(image, replay.base, &steps, replay.start)
+}
+
+fn change_width(image: &mut [u32], n: u32, key: u32, attributes: SlotAttributes) -> Placement
+    requires { ⌜ Formed (now image) ⌝ }
+    requires { ⌜ Sound (parse (now image)) ⌝ }
+    requires { ⌜ SharedAt (parse (now image)) n ⌝ }
+    requires { ⌜ has key (entriesAt (parse (now image)) n) ≡ true ⌝ }
+    requires { ⌜ attributes .0 ≤ 31 ⌝ }
+    requires { ⌜ sameWidth (attributesIn key (entriesAt (parse (now image)) n)) (attributes .0) ≡ false ⌝ }
+    ensures { λ r. ⌜
+        Places (now (image .entry)) (now (image .exit))
+        (changeShared (parse (now (image .entry))) n key (attributes .0) >>= limited) r
+        ⌝ }
+{
+    let mut steps = [0u32; 3072];
+    let replay = change_steps(image, n, key, attributes, &mut steps);
+    transition(image, replay.base, &steps, replay.start)
+}
+
+fn width_stays(image: &[u32], n: u32, key: u32, attributes: SlotAttributes) -> bool
+    requires { ⌜ Formed (now image) ⌝ }
+    requires { ⌜ Sound (parse (now image)) ⌝ }
+    requires { ⌜ SharedAt (parse (now image)) n ⌝ }
+    requires { ⌜ has key (entriesAt (parse (now image)) n) ≡ true ⌝ }
+    ensures { λ r. ⌜
+        r ≡ sameWidth (attributesIn key (entriesAt (parse (now (image .entry))) n)) (attributes .0)
+        ⌝ }
+{
+    let s = get_shape(image, n);
+    match lookup(image, s.table, s.properties, key) {
+        OptionalProperty::At(p) => {
+            let slot = p.slot;
+            let old = slot.attributes;
+            old.width_match(attributes)
+        }
+        OptionalProperty::Nothing => false,
+    }
+}
+
+pub fn change_attributes_transition(
+    image: &mut [u32],
+    n: u32,
+    key: u32,
+    attributes: SlotAttributes,
+) -> Placement
+    requires { ⌜ Formed (now image) ⌝ }
+    requires { ⌜ Sound (parse (now image)) ⌝ }
+    requires { ⌜ SharedAt (parse (now image)) n ⌝ }
+    requires { ⌜ transitionsAt (parse (now image)) n < 1024 ⌝ }
+    requires { ⌜ has key (entriesAt (parse (now image)) n) ≡ true ⌝ }
+    requires { ⌜ goodKey key ≡ true ⌝ }
+    requires { ⌜ attributes .0 ≤ 31 ⌝ }
+    ensures { λ r. ⌜
+        Places (now (image .entry)) (now (image .exit))
+        (changeShared (parse (now (image .entry))) n key (attributes .0) >>= limited) r
+        ⌝ }
+{
+    if !width_stays(image, n, key, attributes) {
+        return change_width(image, n, key, attributes);
+    }
+    one_step(
+        image,
+        n,
+        StepRecord {
+            kind: CONFIGURE,
+            label: key,
+            attributes: attributes.0 as u32,
+        },
+    )
 }
