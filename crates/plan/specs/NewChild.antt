@@ -29,7 +29,8 @@ use Rattle.theorems.specs.Facts.{Used, Sound, shared-used, used-place, used-tab
 use Rattle.theorems.specs.Entries.{length-appended, length-configured}
 use Rattle.theorems.specs.Taken.{FreePlace}
 use Rattle.theorems.specs.Child.{Legal, withTables}
-use Rattle.plan.specs.Plan.{count, isWhole, Room, roomAt, copies, wholeAfter, spent, spend}
+use Rattle.plan.specs.declared.Room.{Room}
+use Rattle.plan.specs.Plan.{count, isWhole, roomAt, copies, wholeAfter, spent, spend}
 use Rattle.plan.specs.Counting.{count-taken, count-same}
 use Rattle.plan.specs.Agree.{Agree, given, agree-map, agree-then, agree-guard, agree-place}
 
