@@ -1,4 +1,5 @@
 pub mod Plan
+pub mod Answers
 pub mod Counting
 pub mod Agree
 pub mod NewChild
