@@ -1,5 +1,7 @@
 pub mod Plan
 pub mod Answers
+pub mod Along
+pub mod Budget
 pub mod Counting
 pub mod Agree
 pub mod NewChild

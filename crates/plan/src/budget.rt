@@ -23,7 +23,8 @@ ghost use Rattle.rules.specs.Steps.{added};
 ghost use Rattle.theorems.specs.Facts.{Used, Sound};
 ghost use Rattle.steps.specs.Records.{records, stepsIn};
 ghost use Rattle.plan.specs.Plan.{roomAt, copies, wholeAfter, spent, spend, spendAll, converted};
-ghost use Rattle.plan.specs.Answers.{Enough, spendingOf};
+ghost use Rattle.plan.specs.Answers.{spendingOf};
+ghost use Rattle.plan.specs.Budget.{Enough};
 
 // With so many edges given back by prunes.
 pub fn room_at(image: &[u32], place: u32, back: u32) -> Room

@@ -6,11 +6,14 @@ use mathlib.Core.Logic.{_⊎_, inl, inr, _≢_}
 use mathlib.Core.Path.{_≡_, refl, ap}
 use Prim.Native.Nat.{ℕ, _+_, _≤_}
 use borrow.Author.Tests.{eqb-true}
+use native.Mathlib.Omega.{arith}
 use lib.Dec.{eqb}
 use lib.ListN.{length}
 use Rattle.store.specs.Model.{Table, free, used, Model, noCounters, noShape, noEdge, freeShape, freeTable}
 use Rattle.store.specs.Model.{freeEdge, shapeAt, tableAt, edgeAt, entriesOf}
 use Rattle.store.specs.ListLaws.{Decided, and-both, both-and, either}
+use Rattle.store.specs.Image.{Place}
+use Rattle.store.specs.PlaceLaws.{at-inside}
 use Rattle.store.specs.declared.Shape.{Shape}
 use Rattle.store.specs.declared.Entry.{Entry}
 use Rattle.store.specs.declared.Edge.{Edge}
@@ -132,6 +135,12 @@ pub used-place : (m : Model) (n : ℕ) → Used m n → n ≢ 0
 unfolding shapeAt
 used-place m n u e = let z : Used m 0 = rw e at u in true≢false z
 
+pub used-place-inside : (m : Model) (n : ℕ) → Used m n → Place (length (m .shapes)) n
+unfolding shapeAt
+used-place-inside m n u =
+    let inside = at-inside freeShape (m .shapes) n noShape refl u in
+    record { low = inside .0; high = inside .1 }
+
 pub used-table : (t : Table) → freeTable t ≡ false → t ≡ used (entriesOf t)
 used-table free e = absurd (true≢false e)
 used-table (used es) e = refl
@@ -148,3 +157,20 @@ transitions-child {s} w h = go (w .state) (either (eqb (s .previous) 0))
 
 pub child-shared : (s : Shape) → isChild s ≡ true → shared s ≡ true
 child-shared s c = and-both (shared s) c .0
+
+-- ## What a shape in use has
+
+module _ (m : Model) (sound : Sound m) (n : ℕ) (u : Used m n) where
+  pub table-inside : Place (length (m .tables)) (shapeAt m n .table)
+  unfolding tableAt
+  table-inside =
+      let inside = at-inside freeTable (m .tables) (shapeAt m n .table) free refl (sound .shapes n u .tableUsed) in
+      record { low = inside .0; high = inside .1 }
+
+  pub keys-fit : shapeAt m n .properties ≤ m .K
+  keys-fit =
+      let s = shapeAt m n in
+      let its = used-table (tableAt m (s .table)) (sound .shapes n u .tableUsed) in
+      let most = sound .tables (s .table) (tableOf m s) its .room in
+      let few = sound .shapes n u .countFits in
+      omega arith

@@ -1,25 +1,27 @@
+-- `plan::at_limit` meets its contract. Assumes nothing.
+use native.Mathlib.Omega.{arith}
 use borrow.Author.Needs.{needs}
+use Rattle.store.specs.Layout.{parse}
+use Rattle.store.specs.Model.{shapeAt}
+use Rattle.theorems.specs.Facts.{used-place-inside}
+use Rattle.plan.specs.Budget.{at-limit}
 use Rattle.plan.proofs.at_limit.Statement.{statement}
 use Rattle.plan.proofs.at_limit.Tie as tie
-use Rattle.plan.proofs.at_limit.Reads as reads
-use Rattle.plan.proofs.at_limit.Lts as lts
-use Rattle.store.proofs.image.get_shape.Reads as get-shape-reads
 
--- src/lib.rt:78:9
 get-shape-requires : tie.Need-get-shape-requires
-get-shape-requires c κs = ?
+get-shape-requires c κs = (c .before .pre .0, used-place-inside _ _ (c .before .pre .1 .1))
 
--- src/lib.rt:79:21
 cast-result : tie.Need-cast-result
-cast-result c = ?
+cast-result c = search needs
 
--- src/lib.rt:79:14
 sub-result : tie.Need-sub-result
-sub-result c = ?
+sub-result c = rw (c .before .get-shape .ensures) (c .before .before .before .pre .1 .0 .shapes _ (c .before .before .before .pre .1 .1) .words .transitions)
 
--- src/lib.rt:72:1
 returns : tie.Need-returns
-returns c = ?
+returns c = 
+    let s = shapeAt (parse (c .before .before .before .args .image .now)) (c .before .before .before .args .from) in
+    let few = c .before .before .before .pre .1 .0 .shapes (c .before .before .before .args .from) (c .before .before .before .pre .1 .1) .words .transitions in
+    rw (c .before .get-shape .ensures) (at-limit (s .transitions) (c .before .before .before .args .count) few)
 
 pub at-limit-spec : {M : Type 1} → statement M
 at-limit-spec = tie.close (tie.spec get-shape-requires cast-result sub-result returns)

@@ -5,7 +5,7 @@ use borrow.Author.Needs.{needs}
 use lib.ListN.{length}
 use Rattle.store.specs.Layout.{parse}
 use Rattle.steps.specs.Records.{records, stepsIn, steps-end}
-use Rattle.plan.specs.Answers.{next-step, Following, follow-start, follow-end, follow-stop, follow-on}
+use Rattle.plan.specs.Along.{next-step, Following, follow-start, follow-end, follow-stop, follow-on}
 use Rattle.plan.proofs.along.follow.Statement.{statement}
 use Rattle.plan.proofs.along.follow.Tie as tie
 

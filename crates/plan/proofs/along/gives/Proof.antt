@@ -2,7 +2,7 @@
 use borrow.Author.Needs.{needs}
 use Rattle.store.specs.Layout.{parse}
 use Rattle.rules.specs.Placing.{stepIn}
-use Rattle.plan.specs.Answers.{gives-back, gives-none}
+use Rattle.plan.specs.Along.{gives-back, gives-none}
 use Rattle.plan.proofs.along.gives.Statement.{statement}
 use Rattle.plan.proofs.along.gives.Tie as tie
 

@@ -3,7 +3,7 @@ use mathlib.Core.Path.{sym, ap, _∙_}
 use borrow.Author.Needs.{needs}
 use Rattle.store.specs.Layout.{parse}
 use Rattle.rules.specs.Placing.{stepIn}
-use Rattle.plan.specs.Answers.{isMade, is-made}
+use Rattle.plan.specs.Along.{isMade, is-made}
 use Rattle.plan.proofs.along.has_edge.Statement.{statement}
 use Rattle.plan.proofs.along.has_edge.Tie as tie
 

@@ -3,7 +3,7 @@ use mathlib.Core.Path.{sym, ap, _∙_}
 use borrow.Author.Needs.{needs}
 use Rattle.store.specs.Layout.{parse}
 use Rattle.rules.specs.Placing.{stepIn}
-use Rattle.plan.specs.Answers.{liveChild, live-child}
+use Rattle.plan.specs.Along.{liveChild, live-child}
 use Rattle.plan.proofs.along.live_child.Statement.{statement}
 use Rattle.plan.proofs.along.live_child.Tie as tie
 

@@ -1,24 +1,19 @@
-use borrow.Author.Needs.{needs}
+-- `plan::budget::converted` meets its contract. Assumes nothing.
+use borrow.Author.Tests.{ne-eqb}
 use Rattle.plan.proofs.budget.converted.Statement.{statement}
 use Rattle.plan.proofs.budget.converted.Tie as tie
-use Rattle.plan.proofs.budget.converted.Reads as reads
-use Rattle.plan.proofs.budget.converted.Lts as lts
 
--- src/budget.rt:121:13
 returns : tie.Need-returns
-returns c = ?
+returns c = rw (c .before .before .if1 .taken, c .if2 .taken)
 
--- src/budget.rt:124:13
 returns-2 : tie.Need-returns-2
-returns-2 c = ?
+returns-2 c = rw (c .before .before .before .before .if1 .taken, ne-eqb _ _ (c .before .before .if2 .left), c .if3 .taken)
 
--- src/budget.rt:116:1
 returns-3 : tie.Need-returns-3
-returns-3 c = ?
+returns-3 c = rw (c .before .before .before .before .if1 .taken, ne-eqb _ _ (c .before .before .if2 .left), ne-eqb _ _ (c .if3 .left))
 
--- src/budget.rt:116:1
 returns-4 : tie.Need-returns-4
-returns-4 c = ?
+returns-4 c = rw (c .if1 .left)
 
 pub converted-spec : {M : Type 1} → statement M
 converted-spec = tie.close (tie.spec returns returns-2 returns-3 returns-4)

@@ -1,50 +1,46 @@
+-- `plan::budget::room_at` meets its contract. Assumes nothing.
+use native.Mathlib.Omega.{arith}
 use borrow.Author.Needs.{needs}
+use Rattle.store.specs.Model.{freeEdge}
+use Rattle.store.specs.Layout.{parse}
+use Rattle.store.specs.ListLaws.{length-keep}
+use Rattle.theorems.specs.Facts.{used-place-inside, table-inside, keys-fit}
+use Rattle.plan.specs.Budget.{room-read}
 use Rattle.plan.proofs.budget.room_at.Statement.{statement}
 use Rattle.plan.proofs.budget.room_at.Tie as tie
-use Rattle.plan.proofs.budget.room_at.Reads as reads
-use Rattle.plan.proofs.budget.room_at.Lts as lts
-use Rattle.store.proofs.image.entry_count.Reads as entry-count-reads
-use Rattle.store.proofs.image.free_edges.Reads as free-edges-reads
-use Rattle.store.proofs.image.free_shapes.Reads as free-shapes-reads
-use Rattle.store.proofs.image.free_tables.Reads as free-tables-reads
-use Rattle.store.proofs.image.get_shape.Reads as get-shape-reads
-use Rattle.store.proofs.image.key_limit.Reads as key-limit-reads
 
--- src/budget.rt:36:9
 get-shape-requires : tie.Need-get-shape-requires
-get-shape-requires c κs = ?
+get-shape-requires c κs = (c .before .pre .0, used-place-inside _ _ (c .before .pre .1 .1 .0))
 
--- src/budget.rt:37:9
 entry-count-requires : tie.Need-entry-count-requires
-entry-count-requires c κs = ?
+entry-count-requires c κs = (c .before .before .pre .0, rw (c .get-shape .ensures) (table-inside _ (c .before .before .pre .1 .0) _ (c .before .before .pre .1 .1 .0)))
 
--- src/budget.rt:39:15
 key-limit-requires : tie.Need-key-limit-requires
-key-limit-requires c κs = ?
+key-limit-requires c κs = search needs
 
--- src/budget.rt:39:15
 sub-t7 : tie.Need-sub-t7
-sub-t7 c = ?
+sub-t7 c = rw (c .before .before .before .get-shape .ensures, c .before .key-limit .ensures) (keys-fit _ (c .before .before .before .before .before .pre .1 .0) _ (c .before .before .before .before .before .pre .1 .1 .0))
 
--- src/budget.rt:40:17
 free-shapes-requires : tie.Need-free-shapes-requires
-free-shapes-requires c κs = ?
+free-shapes-requires c κs = search needs
 
--- src/budget.rt:41:17
 free-tables-requires : tie.Need-free-tables-requires
-free-tables-requires c κs = ?
+free-tables-requires c κs = search needs
 
--- src/budget.rt:42:16
 free-edges-requires : tie.Need-free-edges-requires
-free-edges-requires c κs = ?
+free-edges-requires c κs = search needs
 
--- src/budget.rt:42:16
 add-t11 : tie.Need-add-t11
-add-t11 c = ?
+add-t11 c = 
+    let m = parse (c .before .before .before .before .before .before .before .before .args .image .now) in
+    let free = length-keep freeEdge (m .edges) in
+    let all = c .before .before .before .before .before .before .before .before .pre .0 .limited .edges in
+    record { fits = omega (arith, c .free-edges .ensures, c .before .before .before .before .before .before .before .before .pre .1 .1 .1) }
 
--- src/budget.rt:29:1
 returns : tie.Need-returns
-returns c = ?
+returns c = 
+    room-read (parse (c .before .before .before .before .before .before .before .before .before .args .image .now)) (c .before .before .before .before .before .before .before .before .before .args .place) (c .before .before .before .before .before .before .before .before .before .args .back) (c .before .before .before .before .before .before .before .get-shape .ensures) (c .before .before .before .before .before .key-limit .ensures)
+    (c .before .before .before .before .before .before .entry-count .ensures) (c .before .before .before .free-shapes .ensures) (c .before .before .free-tables .ensures) (c .before .free-edges .ensures)
 
 pub room-at-spec : {M : Type 1} → statement M
 room-at-spec =

@@ -1,43 +1,37 @@
+-- `plan::budget::spend` meets its contract. Assumes nothing.
 use borrow.Author.Needs.{needs}
+use Rattle.plan.specs.Budget.{no-keys, no-shape, no-table, no-edge, enough, step-left}
 use Rattle.plan.proofs.budget.spend.Statement.{statement}
 use Rattle.plan.proofs.budget.spend.Tie as tie
-use Rattle.plan.proofs.budget.spend.Reads as reads
-use Rattle.plan.proofs.budget.spend.Lts as lts
-use Rattle.plan.proofs.budget.added.Reads as added-reads
-use Rattle.plan.proofs.budget.copies.Reads as copies-reads
-use Rattle.plan.proofs.budget.spent.Reads as spent-reads
 
--- src/budget.rt:96:9
 added-requires : tie.Need-added-requires
-added-requires c κs = ?
+added-requires c κs = search needs
 
--- src/budget.rt:97:9
 returns : tie.Need-returns
-returns c = ?
+returns c = no-keys _ _ (c .before .before .added .ensures) (c .if1 .taken)
 
--- src/budget.rt:100:9
 returns-2 : tie.Need-returns-2
-returns-2 c = ?
+returns-2 c = no-shape _ _ (c .before .before .before .before .added .ensures) (c .before .before .if1 .left) (c .if2 .taken)
 
--- src/budget.rt:102:8
 copies-requires : tie.Need-copies-requires
-copies-requires c κs = ?
+copies-requires c κs = search needs
 
--- src/budget.rt:103:9
 returns-3 : tie.Need-returns-3
-returns-3 c = ?
+returns-3 c = 
+    no-table _ _ (c .before .before .before .before .before .before .before .added .ensures) (c .before .before .before .before .before .if1 .left) (c .before .before .before .if2 .left) (c .before .before .copies .ensures) (c .if3 .taken)
 
--- src/budget.rt:106:9
 returns-4 : tie.Need-returns-4
-returns-4 c = ?
+returns-4 c = 
+    no-edge _ _ (c .before .before .before .before .before .before .before .before .before .added .ensures) (c .before .before .before .before .before .before .before .if1 .left) (c .before .before .before .before .before .if2 .left) (c .before .before .before .before .copies .ensures) (c .before .before .if3 .left) (c .if4 .taken)
 
--- src/budget.rt:108:20
 spent-requires : tie.Need-spent-requires
-spent-requires c κs = ?
+spent-requires c κs = 
+    enough _ _ (c .before .before .before .before .before .before .before .before .before .added .ensures) (c .before .before .before .before .before .before .before .if1 .left) (c .before .before .before .before .before .if2 .left) (c .before .before .before .before .copies .ensures) (c .before .before .if3 .left) (c .if4 .left)
 
--- src/budget.rt:93:1
 returns-5 : tie.Need-returns-5
-returns-5 c = ?
+returns-5 c = 
+    step-left _ _ (c .before .before .before .before .before .before .before .before .before .before .added .ensures) (c .before .before .before .before .before .before .before .before .if1 .left) (c .before .before .before .before .before .before .if2 .left) (c .before .before .before .before .before .copies .ensures) (c .before .before .before .if3 .left) (c .before .if4 .left)
+    (c .spent .ensures)
 
 pub spend-spec : {M : Type 1} → statement M
 spend-spec =

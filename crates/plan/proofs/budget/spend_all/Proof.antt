@@ -1,61 +1,56 @@
+-- `plan::budget::spend_all` meets its contract. Assumes nothing.
+use Prim.Native.Nat.{_-_}
+use native.Mathlib.Omega.{arith}
 use borrow.Author.Needs.{needs}
+use lib.ListN.{length}
+use Rattle.steps.specs.Records.{records, stepsIn, steps-end}
+use Rattle.plan.specs.Along.{next-step}
+use Rattle.plan.specs.Budget.{SpentTo, spend-start, spend-end, spend-refused, spend-on}
 use Rattle.plan.proofs.budget.spend_all.Statement.{statement}
 use Rattle.plan.proofs.budget.spend_all.Tie as tie
-use Rattle.plan.proofs.budget.spend_all.Reads as reads
-use Rattle.plan.proofs.budget.spend_all.Lts as lts
-use Rattle.plan.proofs.budget.spend.Reads as spend-reads
-use Rattle.steps.proofs.get_step.Reads as get-step-reads
-use Rattle.steps.proofs.step_count.Reads as step-count-reads
 
 abbrev Inv-loop : tie.InvT-loop
-Inv-loop steps start count left₀ at₀ left at = ?
+Inv-loop steps start count left₀ at₀ left at = SpentTo (stepsIn steps) start left₀ at left
 
 abbrev μ-loop : tie.MeasureT-loop
-μ-loop steps start count left₀ at₀ left at = ?
+μ-loop steps start count left₀ at₀ left at = length (records steps) - at
 
--- src/budget.rt:98:9
 step-count-requires : tie.Need-step-count-requires Inv-loop μ-loop
-step-count-requires c κs = ?
+step-count-requires c κs = search needs
 
--- src/budget.rt:101:5
 loop-holds : tie.Need-loop-holds Inv-loop μ-loop
-loop-holds c = ?
+loop-holds c = spend-start _ _ _
 
--- src/budget.rt:102:21
 get-step-requires : tie.Need-get-step-requires Inv-loop μ-loop
-get-step-requires c κs = ?
+get-step-requires c κs = search needs
 
--- src/budget.rt:102:15
 spend-requires : tie.Need-spend-requires Inv-loop μ-loop
-spend-requires c κs = ?
+spend-requires c κs = search needs
 
--- src/budget.rt:103:31
 enum-known-refusal : tie.Need-enum-known-refusal Inv-loop μ-loop
-enum-known-refusal c = ?
+enum-known-refusal c = search needs
 
--- src/budget.rt:104:17
 returns : tie.Need-returns Inv-loop μ-loop
-returns c = ?
+returns c = 
+    let next = next-step (c .before .before .before .before .before .before .before .before .before .args .steps .now) (c .before .before .before .before .before .before .loop .at) (omega arith) (c .before .before .before .before .get-step .ensures) in
+    spend-refused _ _ _ (c .before .before .before .before .before .before .loop .inv) next (c .before .before .before .spend .ensures) (c .before .refusal .given .1)
 
--- src/budget.rt:106:28
 enum-known-next : tie.Need-enum-known-next Inv-loop μ-loop
-enum-known-next c = ?
+enum-known-next c = search needs
 
--- src/budget.rt:110:9
 add-at : tie.Need-add-at Inv-loop μ-loop
-add-at c = ?
+add-at c = search needs
 
--- src/budget.rt:101:5
 loop-less : tie.Need-loop-less Inv-loop μ-loop
-loop-less c = ?
+loop-less c = search needs
 
--- src/budget.rt:101:5
 loop-again : tie.Need-loop-again Inv-loop μ-loop
-loop-again c = ?
+loop-again c = 
+    let next = next-step (c .before .before .before .before .before .before .before .before .before .args .steps .now) (c .before .before .before .before .before .before .loop .at) (omega arith) (c .before .before .before .before .get-step .ensures) in
+    spend-on _ _ _ (c .before .before .before .before .before .before .loop .inv) next (c .before .before .before .spend .ensures) (c .before .next .given .1)
 
--- src/budget.rt:94:1
 returns-2 : tie.Need-returns-2 Inv-loop μ-loop
-returns-2 c = ?
+returns-2 c = spend-end _ _ _ (c .before .loop .inv) (steps-end (c .before .before .before .before .args .steps .now) {i = c .before .loop .at} (omega arith))
 
 pub spend-all-spec : {M : Type 1} → statement M
 spend-all-spec =

@@ -1,39 +1,35 @@
+-- `plan::budget::spent` meets its contract. Assumes nothing.
+use native.Mathlib.Omega.{arith}
 use borrow.Author.Needs.{needs}
+use Rattle.rules.specs.Placing.{stepIn}
+use Rattle.plan.specs.Budget.{enough-keys, spent-each}
 use Rattle.plan.proofs.budget.spent.Statement.{statement}
 use Rattle.plan.proofs.budget.spent.Tie as tie
-use Rattle.plan.proofs.budget.spent.Reads as reads
-use Rattle.plan.proofs.budget.spent.Lts as lts
-use Rattle.plan.proofs.budget.added.Reads as added-reads
-use Rattle.plan.proofs.budget.tables_left.Reads as tables-left-reads
-use Rattle.plan.proofs.budget.whole_after.Reads as whole-after-reads
 
--- src/budget.rt:84:27
 added-requires : tie.Need-added-requires
-added-requires c κs = ?
+added-requires c κs = search needs
 
--- src/budget.rt:84:15
 sub-t4 : tie.Need-sub-t4
-sub-t4 c = ?
+sub-t4 c = 
+    let few = enough-keys (stepIn (c .before .before .args .t)) (c .before .before .args .room) (c .before .before .pre) in
+    omega (arith, c .before .added .ensures)
 
--- src/budget.rt:85:17
 sub-t5 : tie.Need-sub-t5
-sub-t5 c = ?
+sub-t5 c = let some = c .before .before .before .pre .shapes in omega arith
 
--- src/budget.rt:86:17
 tables-left-requires : tie.Need-tables-left-requires
-tables-left-requires c κs = ?
+tables-left-requires c κs = c .before .before .before .pre .tables
 
--- src/budget.rt:87:16
 sub-t7 : tie.Need-sub-t7
-sub-t7 c = ?
+sub-t7 c = let some = c .before .before .before .before .before .pre .edges in omega arith
 
--- src/budget.rt:88:16
 whole-after-requires : tie.Need-whole-after-requires
-whole-after-requires c κs = ?
+whole-after-requires c κs = search needs
 
--- src/budget.rt:79:1
 returns : tie.Need-returns
-returns c = ?
+returns c = 
+    spent-each (stepIn (c .before .before .before .before .before .before .args .t)) (c .before .before .before .before .before .before .args .room) (c .before .before .before .before .before .added .ensures) (c .before .before .tables-left .ensures)
+    (c .whole-after .ensures)
 
 pub spent-spec : {M : Type 1} → statement M
 spent-spec =

@@ -1,25 +1,23 @@
+-- `plan::budget::tables_left` meets its contract. Assumes nothing.
+use native.Mathlib.Omega.{arith}
 use borrow.Author.Needs.{needs}
+use borrow.Author.Tests.{eqb-false}
 use Rattle.plan.proofs.budget.tables_left.Statement.{statement}
 use Rattle.plan.proofs.budget.tables_left.Tie as tie
-use Rattle.plan.proofs.budget.tables_left.Reads as reads
-use Rattle.plan.proofs.budget.tables_left.Lts as lts
-use Rattle.plan.proofs.budget.copies.Reads as copies-reads
 
--- src/budget.rt:73:8
 copies-requires : tie.Need-copies-requires
-copies-requires c κs = ?
+copies-requires c κs = search needs
 
--- src/budget.rt:74:16
 sub-result : tie.Need-sub-result
-sub-result c = ?
+sub-result c = 
+    let some = eqb-false (c .before .before .before .args .room .tables) 0 (rw (← c .before .before .copies .ensures, c .before .if1 .taken) at (c .before .before .before .pre)) in
+    omega arith
 
--- src/budget.rt:74:9
 returns : tie.Need-returns
-returns c = ?
+returns c = rw (← c .before .before .copies .ensures, c .before .if1 .taken)
 
--- src/budget.rt:69:1
 returns-2 : tie.Need-returns-2
-returns-2 c = ?
+returns-2 c = rw (← c .before .copies .ensures, c .if1 .left)
 
 pub tables-left-spec : {M : Type 1} → statement M
 tables-left-spec = tie.close (tie.spec copies-requires sub-result returns returns-2)

@@ -1,16 +1,14 @@
-use borrow.Author.Needs.{needs}
+-- `plan::budget::whole_after` meets its contract. Assumes nothing.
+use borrow.Author.Tests.{eq-eqb}
+use Rattle.plan.specs.Budget.{same-whole}
 use Rattle.plan.proofs.budget.whole_after.Statement.{statement}
 use Rattle.plan.proofs.budget.whole_after.Tie as tie
-use Rattle.plan.proofs.budget.whole_after.Reads as reads
-use Rattle.plan.proofs.budget.whole_after.Lts as lts
 
--- src/budget.rt:63:1
 returns : tie.Need-returns
-returns c = ?
+returns c = rw (eq-eqb _ _ (c .if1 .taken))
 
--- src/budget.rt:63:1
 returns-2 : tie.Need-returns-2
-returns-2 c = ?
+returns-2 c = same-whole _ (c .if1 .left) _
 
 pub whole-after-spec : {M : Type 1} → statement M
 whole-after-spec = tie.close (tie.spec returns returns-2)
