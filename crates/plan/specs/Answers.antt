@@ -52,34 +52,34 @@ given-by g e = same g ∙ ap gotOf (sym e)
 module _ (ws : List ℕ) (start : ℕ) (m : Model) (n : ℕ)
     {way : Way} (followed : way ≡ follow (drop start (stepsIn ws)) m n)
     {x : Spending} (spent : x ≡ spendingOf (newSteps m (way .place) (drop (start + way .found) (stepsIn ws))))
-    where
-  abbrev ts : List Step
-  ts = drop start (stepsIn ws)
+  where
+    abbrev ts : List Step
+    ts = drop start (stepsIn ws)
 
-  abbrev Answers : Planned → Type 0
-  Answers r = r ≡ plannedOf (planLimited m n ts) (follow ts m n)
+    abbrev Answers : Planned → Type 0
+    Answers r = r ≡ plannedOf (planLimited m n ts) (follow ts m n)
 
-  plan-gave : plan m n ts ≡ gotOf x
-  unfolding plan
-  plan-gave =
-      rw (← followed, drop-drop (way .found) start (stepsIn ws))
-      (given-by (newSteps m (way .place) (drop (start + way .found) (stepsIn ws))) spent)
+    plan-gave : plan m n ts ≡ gotOf x
+    unfolding plan
+    plan-gave =
+        rw (← followed, drop-drop (way .found) start (stepsIn ws))
+        (given-by (newSteps m (way .place) (drop (start + way .found) (stepsIn ws))) spent)
 
-  pub plan-refused : {r : Refusal} → x ≡ Refused r → Answers (planned.Refused r)
-  unfolding planLimited
-  plan-refused told = rw (plan-gave, told)
-
-  module _ {count : ℕ} (counted : count ≡ length (records ws)) {limit : Bool}
-      (tested : limit ≡ eqb (shapeAt m n .transitions + (count - start)) 1024)
-      {room : Room} (left : x ≡ Left room) {y : Spending} (last : y ≡ spendingOf (converted limit room)) where
-    gave : planLimited m n ts ≡ gotOf y
+    pub plan-refused : {r : Refusal} → x ≡ Refused r → Answers (planned.Refused r)
     unfolding planLimited
-    gave =
-        let long = length-drop start (stepsIn ws) ∙ ap (λ (k : ℕ). k - start) (length-map (records ws) stepIn) in
-        rw (plan-gave, left, long, ← counted, ← tested) (given-by (converted limit room) last)
+    plan-refused told = rw (plan-gave, told)
 
-    pub conversion-refused : {r : Refusal} → y ≡ Refused r → Answers (planned.Refused r)
-    conversion-refused told = rw (gave, told)
+    module _ {count : ℕ} (counted : count ≡ length (records ws)) {limit : Bool}
+        (tested : limit ≡ eqb (shapeAt m n .transitions + (count - start)) 1024)
+        {room : Room} (left : x ≡ Left room) {y : Spending} (last : y ≡ spendingOf (converted limit room)) where
+      gave : planLimited m n ts ≡ gotOf y
+      unfolding planLimited
+      gave =
+          let long = length-drop start (stepsIn ws) ∙ ap (λ (k : ℕ). k - start) (length-map (records ws) stepIn) in
+          rw (plan-gave, left, long, ← counted, ← tested) (given-by (converted limit room) last)
 
-    pub plan-passes : {r : Room} → y ≡ Left r → Answers (planned.Passes way)
-    plan-passes told = rw (gave, told, ← followed)
+      pub conversion-refused : {r : Refusal} → y ≡ Refused r → Answers (planned.Refused r)
+      conversion-refused told = rw (gave, told)
+
+      pub plan-passes : {r : Room} → y ≡ Left r → Answers (planned.Passes way)
+      plan-passes told = rw (gave, told, ← followed)

@@ -7,6 +7,8 @@ pub mod Agree
 pub mod NewChild
 pub mod NewStep
 pub mod PlanRight
+pub mod LiveSteps
+pub mod HeldResult
 pub mod PlanClosed
 pub mod PlanCases
 pub mod PlanLegal

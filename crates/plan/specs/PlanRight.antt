@@ -71,7 +71,7 @@ new-steps N (t ∷ ts) m sound n legal new total =
 
 -- ## Along live edges first
 
-live-step : (m : Model) (n : ℕ) (t : Step) → eqb (childOf (edgeFor m n t)) 0 ≡ false
+pub live-step : (m : Model) (n : ℕ) (t : Step) → eqb (childOf (edgeFor m n t)) 0 ≡ false
     → step m n t ≡ ok (m, childOf (edgeFor m n t))
 unfolding step
 live-step m n t live = go (edgeFor m n t) live

@@ -1,9 +1,9 @@
 // The plan of a list of steps, found before a word is written: which refusal they meet.
+use crate::along::first_gives;
 use crate::along::follow;
 use crate::budget::converted;
 use crate::budget::room_at;
 use crate::budget::spend_all;
-use crate::along::first_gives;
 use rules::Refusal;
 use steps::step_count;
 use store::image::get_shape;

@@ -18,7 +18,7 @@ sub-result : tie.Need-sub-result
 sub-result c = rw (c .before .get-shape .ensures) (c .before .before .before .pre .1 .0 .shapes _ (c .before .before .before .pre .1 .1) .words .transitions)
 
 returns : tie.Need-returns
-returns c = 
+returns c =
     let s = shapeAt (parse (c .before .before .before .args .image .now)) (c .before .before .before .args .from) in
     let few = c .before .before .before .pre .1 .0 .shapes (c .before .before .before .args .from) (c .before .before .before .pre .1 .1) .words .transitions in
     rw (c .before .get-shape .ensures) (at-limit (s .transitions) (c .before .before .before .args .count) few)

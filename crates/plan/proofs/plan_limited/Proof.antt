@@ -1,69 +1,82 @@
+-- `plan::plan_limited` meets its contract. Assumes nothing.
+use native.Mathlib.Omega.{arith}
 use borrow.Author.Needs.{needs}
+use lib.ListN.{drop}
+use Rattle.store.specs.Layout.{parse}
+use Rattle.store.specs.Model.{shapeAt}
+use Rattle.steps.specs.Records.{stepsIn}
+use Rattle.theorems.specs.Facts.{shared-used}
+use Rattle.plan.specs.Plan.{follow}
+use Rattle.plan.specs.Along.{found-inside}
+use Rattle.plan.specs.LiveSteps.{followed-shared}
+use Rattle.plan.specs.Answers.{plan-refused, conversion-refused, plan-passes}
 use Rattle.plan.proofs.plan_limited.Statement.{statement}
 use Rattle.plan.proofs.plan_limited.Tie as tie
-use Rattle.plan.proofs.plan_limited.Reads as reads
-use Rattle.plan.proofs.plan_limited.Lts as lts
-use Rattle.plan.proofs.along.follow.Reads as follow-reads
-use Rattle.plan.proofs.at_limit.Reads as at-limit-reads
-use Rattle.plan.proofs.budget.converted.Reads as converted-reads
-use Rattle.plan.proofs.plan_new.Reads as plan-new-reads
-use Rattle.steps.proofs.step_count.Reads as step-count-reads
 
--- src/lib.rt:93:9
 follow-requires : tie.Need-follow-requires
-follow-requires c κs = ?
+follow-requires c κs = search needs
 
--- src/lib.rt:94:39
 step-count-requires : tie.Need-step-count-requires
-step-count-requires c κs = ?
+step-count-requires c κs = search needs
 
--- src/lib.rt:94:39
 sub-at-limit : tie.Need-sub-at-limit
-sub-at-limit c = ?
+sub-at-limit c = search needs
 
--- src/lib.rt:94:9
 at-limit-requires : tie.Need-at-limit-requires
-at-limit-requires c κs = ?
+at-limit-requires c κs =
+    let a = c .before .before .before .before .args in
+    (c .before .before .before .before .pre .0, (c .before .before .before .before .pre .1 .0, shared-used (shapeAt (parse (a .image .now)) (a .from)) (c .before .before .before .before .pre .1 .1 .0)))
 
--- src/lib.rt:95:45
 add-plan-new : tie.Need-add-plan-new
-add-plan-new c = ?
+add-plan-new c =
+    let a = c .before .before .before .before .before .before .args in
+    let inside = found-inside (a .steps .now) (a .start) (parse (a .image .now)) (a .from) (c .before .before .before .before .before .before .pre .1 .1 .1) in
+    rw (c .before .before .before .follow .ensures) (search needs)
 
--- src/lib.rt:95:11
 plan-new-requires : tie.Need-plan-new-requires
-plan-new-requires c κs = ?
+plan-new-requires c κs =
+    let a = c .before .before .before .before .before .before .args in
+    let m = parse (a .image .now) in
+    let inside = found-inside (a .steps .now) (a .start) m (a .from) (c .before .before .before .before .before .before .pre .1 .1 .1) in
+    let ts = drop (a .start) (stepsIn (a .steps .now)) in
+    let isShared = followed-shared ts m (c .before .before .before .before .before .before .pre .1 .0) (a .from) (c .before .before .before .before .before .before .pre .1 .1 .0) in
+    let isUsed = shared-used (shapeAt m (follow ts m (a .from) .place)) isShared in
+    rw (c .before .before .before .follow .ensures) (c .before .before .before .before .before .before .pre .0, (c .before .before .before .before .before .before .pre .1 .0, (isUsed, inside)))
 
--- src/lib.rt:96:27
 enum-known-refusal : tie.Need-enum-known-refusal
-enum-known-refusal c = ?
+enum-known-refusal c = search needs
 
--- src/lib.rt:97:24
 enum-known-room : tie.Need-enum-known-room
-enum-known-room c = ?
+enum-known-room c = search needs
 
--- src/lib.rt:97:39
 converted-requires : tie.Need-converted-requires
-converted-requires c κs = ?
+converted-requires c κs = search needs
 
--- src/lib.rt:98:31
 enum-known-refusal-2 : tie.Need-enum-known-refusal-2
-enum-known-refusal-2 c = ?
+enum-known-refusal-2 c = search needs
 
--- src/lib.rt:99:34
 enum-told : tie.Need-enum-told
-enum-told c = ?
+enum-told c = search needs
 
--- src/lib.rt:82:1
 returns : tie.Need-returns
-returns c = ?
+returns c =
+    let a = c .before .before .before .before .before .before .before .before .before .before .args in
+    plan-refused (a .steps .now) (a .start) (parse (a .image .now)) (a .from) (c .before .before .before .before .before .before .before .follow .ensures) (c .before .before .before .plan-new .ensures)
+    (c .before .refusal .given .1)
 
--- src/lib.rt:82:1
 returns-2 : tie.Need-returns-2
-returns-2 c = ?
+returns-2 c =
+    let a = c .before .before .before .before .before .before .before .before .before .before .before .before .before .before .args in
+    conversion-refused (a .steps .now) (a .start) (parse (a .image .now)) (a .from) (c .before .before .before .before .before .before .before .before .before .before .before .follow .ensures)
+    (c .before .before .before .before .before .before .before .plan-new .ensures) (c .before .before .before .before .before .before .before .before .before .before .step-count .ensures) (c .before .before .before .before .before .before .before .before .before .at-limit .ensures) (c .before .before .before .before .before .room .given .1) (c .before .before .before .converted .ensures)
+    (c .before .refusal2 .given .1)
 
--- src/lib.rt:82:1
 returns-3 : tie.Need-returns-3
-returns-3 c = ?
+returns-3 c =
+    let a = c .before .before .before .before .before .before .before .before .before .before .before .before .before .args in
+    plan-passes (a .steps .now) (a .start) (parse (a .image .now)) (a .from) (c .before .before .before .before .before .before .before .before .before .before .follow .ensures)
+    (c .before .before .before .before .before .before .plan-new .ensures) (c .before .before .before .before .before .before .before .before .before .step-count .ensures) (c .before .before .before .before .before .before .before .before .at-limit .ensures) (c .before .before .before .before .room .given .1) (c .before .before .converted .ensures)
+    (c .enum-told .given .1)
 
 pub plan-limited-spec : {M : Type 1} → statement M
 plan-limited-spec =

@@ -10,11 +10,11 @@ use Rattle.plan.proofs.plan_new.Statement.{statement}
 use Rattle.plan.proofs.plan_new.Tie as tie
 
 first-gives-requires : tie.Need-first-gives-requires
-first-gives-requires c κs = 
+first-gives-requires c κs =
     (c .before .before .pre .0, (used-place-inside _ _ (c .before .before .pre .1 .1 .0), c .before .before .pre .1 .1 .1))
 
 room-at-requires : tie.Need-room-at-requires
-room-at-requires c κs = 
+room-at-requires c κs =
     let few = few-given (parse (c .before .before .before .args .image .now)) (c .before .before .before .args .place) (drop (c .before .before .before .args .start) (stepsIn (c .before .before .before .args .steps .now))) in
     let all = c .before .before .before .pre .0 .limited .edges in
     (c .before .before .before .pre .0, (c .before .before .before .pre .1 .0, (c .before .before .before .pre .1 .1 .0, omega (arith, c .first-gives .ensures))))

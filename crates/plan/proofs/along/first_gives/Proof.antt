@@ -19,7 +19,7 @@ gives-requires : tie.Need-gives-requires
 gives-requires c κs = search needs
 
 returns-2 : tie.Need-returns-2
-returns-2 c = 
+returns-2 c =
     let a = c .before .before .before .before .before .before .args in
     rw (next-step (a .steps .now) (a .start) (omega arith) (c .before .get-step .ensures)) (c .gives .ensures)
 

@@ -31,7 +31,7 @@ sub-t11 : tie.Need-sub-t11 Inv-loop μ-loop
 sub-t11 c = c .before .before .before .before .loop .inv .low
 
 returns : tie.Need-returns Inv-loop μ-loop
-returns c = 
+returns c =
     let next = next-step (c .before .before .before .before .before .before .before .before .args .steps .now) (c .before .before .before .before .loop .at) (omega arith) (c .before .before .get-step .ensures) in
     follow-stop _ _ _ _ (c .before .before .before .before .loop .inv) next (c .before .live-child .ensures) (c .if1 .taken)
 
@@ -42,7 +42,7 @@ loop-less : tie.Need-loop-less Inv-loop μ-loop
 loop-less c = search needs
 
 loop-again : tie.Need-loop-again Inv-loop μ-loop
-loop-again c = 
+loop-again c =
     let next = next-step (c .before .before .before .before .before .before .before .before .args .steps .now) (c .before .before .before .before .loop .at) (omega arith) (c .before .before .get-step .ensures) in
     follow-on _ _ _ _ (c .before .before .before .before .loop .inv) next (c .before .live-child .ensures) (c .if1 .left)
 

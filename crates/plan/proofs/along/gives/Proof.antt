@@ -22,13 +22,13 @@ dead-edges-requires : tie.Need-dead-edges-requires
 dead-edges-requires c κs = search needs
 
 returns : tie.Need-returns
-returns c = 
+returns c =
     let a = c .before .before .before .before .before .before .before .before .args in
     gives-back (parse (a .image .now)) (a .place) (stepIn (a .t)) (c .before .before .before .before .before .before .edge-of .ensures) (c .before .before .before .before .before .get-shape .ensures)
     (c .before .before .before .counter .ensures) (c .before .before .has-edge .ensures) (c .before .if1 .taken) (c .dead-edges .ensures)
 
 returns-2 : tie.Need-returns-2
-returns-2 c = 
+returns-2 c =
     let a = c .before .before .before .before .before .before .before .args in
     gives-none (parse (a .image .now)) (a .place) (stepIn (a .t)) (c .before .before .before .before .before .edge-of .ensures) (c .before .before .before .before .get-shape .ensures)
     (c .before .before .counter .ensures) (c .before .has-edge .ensures) (c .if1 .left)

@@ -31,14 +31,14 @@ free-edges-requires : tie.Need-free-edges-requires
 free-edges-requires c κs = search needs
 
 add-t11 : tie.Need-add-t11
-add-t11 c = 
+add-t11 c =
     let m = parse (c .before .before .before .before .before .before .before .before .args .image .now) in
     let free = length-keep freeEdge (m .edges) in
     let all = c .before .before .before .before .before .before .before .before .pre .0 .limited .edges in
     record { fits = omega (arith, c .free-edges .ensures, c .before .before .before .before .before .before .before .before .pre .1 .1 .1) }
 
 returns : tie.Need-returns
-returns c = 
+returns c =
     room-read (parse (c .before .before .before .before .before .before .before .before .before .args .image .now)) (c .before .before .before .before .before .before .before .before .before .args .place) (c .before .before .before .before .before .before .before .before .before .args .back) (c .before .before .before .before .before .before .before .get-shape .ensures) (c .before .before .before .before .before .key-limit .ensures)
     (c .before .before .before .before .before .before .entry-count .ensures) (c .before .before .before .free-shapes .ensures) (c .before .before .free-tables .ensures) (c .before .free-edges .ensures)
 

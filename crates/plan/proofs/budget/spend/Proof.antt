@@ -17,19 +17,19 @@ copies-requires : tie.Need-copies-requires
 copies-requires c κs = search needs
 
 returns-3 : tie.Need-returns-3
-returns-3 c = 
+returns-3 c =
     no-table _ _ (c .before .before .before .before .before .before .before .added .ensures) (c .before .before .before .before .before .if1 .left) (c .before .before .before .if2 .left) (c .before .before .copies .ensures) (c .if3 .taken)
 
 returns-4 : tie.Need-returns-4
-returns-4 c = 
+returns-4 c =
     no-edge _ _ (c .before .before .before .before .before .before .before .before .before .added .ensures) (c .before .before .before .before .before .before .before .if1 .left) (c .before .before .before .before .before .if2 .left) (c .before .before .before .before .copies .ensures) (c .before .before .if3 .left) (c .if4 .taken)
 
 spent-requires : tie.Need-spent-requires
-spent-requires c κs = 
+spent-requires c κs =
     enough _ _ (c .before .before .before .before .before .before .before .before .before .added .ensures) (c .before .before .before .before .before .before .before .if1 .left) (c .before .before .before .before .before .if2 .left) (c .before .before .before .before .copies .ensures) (c .before .before .if3 .left) (c .if4 .left)
 
 returns-5 : tie.Need-returns-5
-returns-5 c = 
+returns-5 c =
     step-left _ _ (c .before .before .before .before .before .before .before .before .before .before .added .ensures) (c .before .before .before .before .before .before .before .before .if1 .left) (c .before .before .before .before .before .before .if2 .left) (c .before .before .before .before .before .copies .ensures) (c .before .before .before .if3 .left) (c .before .if4 .left)
     (c .spent .ensures)
 

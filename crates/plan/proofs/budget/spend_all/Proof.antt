@@ -31,7 +31,7 @@ enum-known-refusal : tie.Need-enum-known-refusal Inv-loop μ-loop
 enum-known-refusal c = search needs
 
 returns : tie.Need-returns Inv-loop μ-loop
-returns c = 
+returns c =
     let next = next-step (c .before .before .before .before .before .before .before .before .before .args .steps .now) (c .before .before .before .before .before .before .loop .at) (omega arith) (c .before .before .before .before .get-step .ensures) in
     spend-refused _ _ _ (c .before .before .before .before .before .before .loop .inv) next (c .before .before .before .spend .ensures) (c .before .refusal .given .1)
 
@@ -45,7 +45,7 @@ loop-less : tie.Need-loop-less Inv-loop μ-loop
 loop-less c = search needs
 
 loop-again : tie.Need-loop-again Inv-loop μ-loop
-loop-again c = 
+loop-again c =
     let next = next-step (c .before .before .before .before .before .before .before .before .before .args .steps .now) (c .before .before .before .before .before .before .loop .at) (omega arith) (c .before .before .before .before .get-step .ensures) in
     spend-on _ _ _ (c .before .before .before .before .before .before .loop .inv) next (c .before .before .before .spend .ensures) (c .before .next .given .1)
 

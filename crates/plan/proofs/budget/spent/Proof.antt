@@ -10,7 +10,7 @@ added-requires : tie.Need-added-requires
 added-requires c κs = search needs
 
 sub-t4 : tie.Need-sub-t4
-sub-t4 c = 
+sub-t4 c =
     let few = enough-keys (stepIn (c .before .before .args .t)) (c .before .before .args .room) (c .before .before .pre) in
     omega (arith, c .before .added .ensures)
 
@@ -27,7 +27,7 @@ whole-after-requires : tie.Need-whole-after-requires
 whole-after-requires c κs = search needs
 
 returns : tie.Need-returns
-returns c = 
+returns c =
     spent-each (stepIn (c .before .before .before .before .before .before .args .t)) (c .before .before .before .before .before .before .args .room) (c .before .before .before .before .before .added .ensures) (c .before .before .tables-left .ensures)
     (c .whole-after .ensures)
 

@@ -9,7 +9,7 @@ copies-requires : tie.Need-copies-requires
 copies-requires c κs = search needs
 
 sub-result : tie.Need-sub-result
-sub-result c = 
+sub-result c =
     let some = eqb-false (c .before .before .before .args .room .tables) 0 (rw (← c .before .before .copies .ensures, c .before .if1 .taken) at (c .before .before .before .pre)) in
     omega arith
 
