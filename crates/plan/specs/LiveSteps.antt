@@ -13,7 +13,7 @@ use Rattle.store.specs.PlaceLaws.{FirstOrNone, first-or-none, first-found, firs
 use Rattle.store.specs.ListLaws.{Decided, either}
 use Rattle.rules.specs.Shapes.{shared}
 use Rattle.rules.specs.Steps.{Step, edgeOf, alike, steps}
-use Rattle.theorems.specs.Facts.{Sound, shared-used}
+use Rattle.theorems.specs.Facts.{Used, Sound, shared-used}
 use Rattle.theorems.specs.TestsSay.{alike-is}
 use Rattle.theorems.specs.Stepped.{edge-in-use}
 use Rattle.plan.specs.Plan.{edgeFor, childOf, follow}
@@ -47,6 +47,11 @@ followed-shared (t ∷ ts) m sound n isShared = go (either (eqb c 0)) (followed-
         → shared (shapeAt m (follow (t ∷ ts) m n .place)) ≡ true
     go (inl new) rest = rw new isShared
     go (inr live) rest = rw live (rest (live-shared m sound n isShared t (eqb-false c 0 live)))
+
+pub followed-used : (ts : List Step) (m : Model) → Sound m → (n : ℕ) → shared (shapeAt m n) ≡ true
+    → Used m (follow ts m n .place)
+followed-used ts m sound n isShared =
+    shared-used (shapeAt m (follow ts m n .place)) (followed-shared ts m sound n isShared)
 
 pub steps-left : (ts : List Step) (m : Model) (n : ℕ)
     → let w = follow ts m n in steps ts m n ≡ steps (drop (w .found) ts) m (w .place)

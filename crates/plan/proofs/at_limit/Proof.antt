@@ -9,19 +9,25 @@ use Rattle.plan.proofs.at_limit.Statement.{statement}
 use Rattle.plan.proofs.at_limit.Tie as tie
 
 get-shape-requires : tie.Need-get-shape-requires
-get-shape-requires c κs = (c .before .pre .0, used-place-inside _ _ (c .before .pre .1 .1))
+get-shape-requires c κs =
+    let pre = c .before .pre in
+    (pre .0, used-place-inside _ _ (pre .1 .1))
 
 cast-result : tie.Need-cast-result
 cast-result c = search needs
 
 sub-result : tie.Need-sub-result
-sub-result c = rw (c .before .get-shape .ensures) (c .before .before .before .pre .1 .0 .shapes _ (c .before .before .before .pre .1 .1) .words .transitions)
+sub-result c =
+    let pre = c .before .before .before .pre in
+    rw (c .before .get-shape .ensures) (pre .1 .0 .shapes _ (pre .1 .1) .words .transitions)
 
 returns : tie.Need-returns
 returns c =
-    let s = shapeAt (parse (c .before .before .before .args .image .now)) (c .before .before .before .args .from) in
-    let few = c .before .before .before .pre .1 .0 .shapes (c .before .before .before .args .from) (c .before .before .before .pre .1 .1) .words .transitions in
-    rw (c .before .get-shape .ensures) (at-limit (s .transitions) (c .before .before .before .args .count) few)
+    let args = c .before .before .before .args in
+    let pre = c .before .before .before .pre in
+    let s = shapeAt (parse (args .image .now)) (args .from) in
+    let few = pre .1 .0 .shapes (args .from) (pre .1 .1) .words .transitions in
+    rw (c .before .get-shape .ensures) (at-limit (s .transitions) (args .count) few)
 
 pub at-limit-spec : {M : Type 1} → statement M
 at-limit-spec = tie.close (tie.spec get-shape-requires cast-result sub-result returns)

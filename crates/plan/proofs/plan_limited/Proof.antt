@@ -6,9 +6,8 @@ use Rattle.store.specs.Layout.{parse}
 use Rattle.store.specs.Model.{shapeAt}
 use Rattle.steps.specs.Records.{stepsIn}
 use Rattle.theorems.specs.Facts.{shared-used}
-use Rattle.plan.specs.Plan.{follow}
 use Rattle.plan.specs.Along.{found-inside}
-use Rattle.plan.specs.LiveSteps.{followed-shared}
+use Rattle.plan.specs.LiveSteps.{followed-used}
 use Rattle.plan.specs.Answers.{plan-refused, conversion-refused, plan-passes}
 use Rattle.plan.proofs.plan_limited.Statement.{statement}
 use Rattle.plan.proofs.plan_limited.Tie as tie
@@ -24,24 +23,27 @@ sub-at-limit c = search needs
 
 at-limit-requires : tie.Need-at-limit-requires
 at-limit-requires c κs =
-    let a = c .before .before .before .before .args in
-    (c .before .before .before .before .pre .0, (c .before .before .before .before .pre .1 .0, shared-used (shapeAt (parse (a .image .now)) (a .from)) (c .before .before .before .before .pre .1 .1 .0)))
+    let args = c .before .before .before .before .args in
+    let pre = c .before .before .before .before .pre in
+    (pre .0, (pre .1 .0, shared-used (shapeAt (parse (args .image .now)) (args .from)) (pre .1 .1 .0)))
 
 add-plan-new : tie.Need-add-plan-new
 add-plan-new c =
-    let a = c .before .before .before .before .before .before .args in
-    let inside = found-inside (a .steps .now) (a .start) (parse (a .image .now)) (a .from) (c .before .before .before .before .before .before .pre .1 .1 .1) in
-    rw (c .before .before .before .follow .ensures) (search needs)
+    let args = c .before .before .before .before .before .before .args in
+    let pre = c .before .before .before .before .before .before .pre in
+    let follow = c .before .before .before .follow in
+    let inside = found-inside (args .steps .now) (args .start) (parse (args .image .now)) (args .from) (pre .1 .1 .1) in
+    rw (follow .ensures) (search needs)
 
 plan-new-requires : tie.Need-plan-new-requires
 plan-new-requires c κs =
-    let a = c .before .before .before .before .before .before .args in
-    let m = parse (a .image .now) in
-    let inside = found-inside (a .steps .now) (a .start) m (a .from) (c .before .before .before .before .before .before .pre .1 .1 .1) in
-    let ts = drop (a .start) (stepsIn (a .steps .now)) in
-    let isShared = followed-shared ts m (c .before .before .before .before .before .before .pre .1 .0) (a .from) (c .before .before .before .before .before .before .pre .1 .1 .0) in
-    let isUsed = shared-used (shapeAt m (follow ts m (a .from) .place)) isShared in
-    rw (c .before .before .before .follow .ensures) (c .before .before .before .before .before .before .pre .0, (c .before .before .before .before .before .before .pre .1 .0, (isUsed, inside)))
+    let args = c .before .before .before .before .before .before .args in
+    let pre = c .before .before .before .before .before .before .pre in
+    let follow = c .before .before .before .follow in
+    let m = parse (args .image .now) in
+    let inside = found-inside (args .steps .now) (args .start) m (args .from) (pre .1 .1 .1) in
+    let isUsed = followed-used (drop (args .start) (stepsIn (args .steps .now))) m (pre .1 .0) (args .from) (pre .1 .1 .0) in
+    rw (follow .ensures) (pre .0, (pre .1 .0, (isUsed, inside)))
 
 enum-known-refusal : tie.Need-enum-known-refusal
 enum-known-refusal c = search needs
@@ -60,22 +62,35 @@ enum-told c = search needs
 
 returns : tie.Need-returns
 returns c =
-    let a = c .before .before .before .before .before .before .before .before .before .before .args in
-    plan-refused (a .steps .now) (a .start) (parse (a .image .now)) (a .from) (c .before .before .before .before .before .before .before .follow .ensures) (c .before .before .before .plan-new .ensures)
+    let args = c .before .before .before .before .before .before .before .before .before .before .args in
+    let follow = c .before .before .before .before .before .before .before .follow in
+    let plan-new = c .before .before .before .plan-new in
+    plan-refused (args .steps .now) (args .start) (parse (args .image .now)) (args .from) (follow .ensures) (plan-new .ensures)
     (c .before .refusal .given .1)
 
 returns-2 : tie.Need-returns-2
 returns-2 c =
-    let a = c .before .before .before .before .before .before .before .before .before .before .before .before .before .before .args in
-    conversion-refused (a .steps .now) (a .start) (parse (a .image .now)) (a .from) (c .before .before .before .before .before .before .before .before .before .before .before .follow .ensures)
-    (c .before .before .before .before .before .before .before .plan-new .ensures) (c .before .before .before .before .before .before .before .before .before .before .step-count .ensures) (c .before .before .before .before .before .before .before .before .before .at-limit .ensures) (c .before .before .before .before .before .room .given .1) (c .before .before .before .converted .ensures)
+    let args = c .before .before .before .before .before .before .before .before .before .before .before .before .before .before .args in
+    let follow = c .before .before .before .before .before .before .before .before .before .before .before .follow in
+    let plan-new = c .before .before .before .before .before .before .before .plan-new in
+    let step-count = c .before .before .before .before .before .before .before .before .before .before .step-count in
+    let at-limit = c .before .before .before .before .before .before .before .before .before .at-limit in
+    let room = c .before .before .before .before .before .room in
+    let converted = c .before .before .before .converted in
+    conversion-refused (args .steps .now) (args .start) (parse (args .image .now)) (args .from) (follow .ensures)
+    (plan-new .ensures) (step-count .ensures) (at-limit .ensures) (room .given .1) (converted .ensures)
     (c .before .refusal2 .given .1)
 
 returns-3 : tie.Need-returns-3
 returns-3 c =
-    let a = c .before .before .before .before .before .before .before .before .before .before .before .before .before .args in
-    plan-passes (a .steps .now) (a .start) (parse (a .image .now)) (a .from) (c .before .before .before .before .before .before .before .before .before .before .follow .ensures)
-    (c .before .before .before .before .before .before .plan-new .ensures) (c .before .before .before .before .before .before .before .before .before .step-count .ensures) (c .before .before .before .before .before .before .before .before .at-limit .ensures) (c .before .before .before .before .room .given .1) (c .before .before .converted .ensures)
+    let args = c .before .before .before .before .before .before .before .before .before .before .before .before .before .args in
+    let follow = c .before .before .before .before .before .before .before .before .before .before .follow in
+    let plan-new = c .before .before .before .before .before .before .plan-new in
+    let step-count = c .before .before .before .before .before .before .before .before .before .step-count in
+    let at-limit = c .before .before .before .before .before .before .before .before .at-limit in
+    let room = c .before .before .before .before .room in
+    plan-passes (args .steps .now) (args .start) (parse (args .image .now)) (args .from) (follow .ensures)
+    (plan-new .ensures) (step-count .ensures) (at-limit .ensures) (room .given .1) (c .before .before .converted .ensures)
     (c .enum-told .given .1)
 
 pub plan-limited-spec : {M : Type 1} → statement M

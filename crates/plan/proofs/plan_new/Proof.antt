@@ -11,16 +11,21 @@ use Rattle.plan.proofs.plan_new.Tie as tie
 
 first-gives-requires : tie.Need-first-gives-requires
 first-gives-requires c κs =
-    (c .before .before .pre .0, (used-place-inside _ _ (c .before .before .pre .1 .1 .0), c .before .before .pre .1 .1 .1))
+    let pre = c .before .before .pre in
+    (pre .0, (used-place-inside _ _ (pre .1 .1 .0), pre .1 .1 .1))
 
 room-at-requires : tie.Need-room-at-requires
 room-at-requires c κs =
-    let few = few-given (parse (c .before .before .before .args .image .now)) (c .before .before .before .args .place) (drop (c .before .before .before .args .start) (stepsIn (c .before .before .before .args .steps .now))) in
-    let all = c .before .before .before .pre .0 .limited .edges in
-    (c .before .before .before .pre .0, (c .before .before .before .pre .1 .0, (c .before .before .before .pre .1 .1 .0, omega (arith, c .first-gives .ensures))))
+    let args = c .before .before .before .args in
+    let pre = c .before .before .before .pre in
+    let few = few-given (parse (args .image .now)) (args .place) (drop (args .start) (stepsIn (args .steps .now))) in
+    let all = pre .0 .limited .edges in
+    (pre .0, (pre .1 .0, (pre .1 .1 .0, omega (arith, c .first-gives .ensures))))
 
 spend-all-requires : tie.Need-spend-all-requires
-spend-all-requires c κs = c .before .before .before .before .pre .1 .1 .1
+spend-all-requires c κs =
+    let pre = c .before .before .before .before .pre in
+    pre .1 .1 .1
 
 returns : tie.Need-returns
 returns c = rw (← c .before .before .first-gives .ensures, ← c .before .room-at .ensures) (c .spend-all .ensures)

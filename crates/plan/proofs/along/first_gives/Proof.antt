@@ -10,7 +10,9 @@ step-count-requires : tie.Need-step-count-requires
 step-count-requires c κs = search needs
 
 returns : tie.Need-returns
-returns c = let a = c .before .before .before .before .args in rw (steps-end (a .steps .now) {i = a .start} (omega arith))
+returns c =
+    let args = c .before .before .before .before .args in
+    let a = args in rw (steps-end (args .steps .now) {i = args .start} (omega arith))
 
 get-step-requires : tie.Need-get-step-requires
 get-step-requires c κs = search needs
@@ -20,8 +22,8 @@ gives-requires c κs = search needs
 
 returns-2 : tie.Need-returns-2
 returns-2 c =
-    let a = c .before .before .before .before .before .before .args in
-    rw (next-step (a .steps .now) (a .start) (omega arith) (c .before .get-step .ensures)) (c .gives .ensures)
+    let args = c .before .before .before .before .before .before .args in
+    rw (next-step (args .steps .now) (args .start) (omega arith) (c .before .get-step .ensures)) (c .gives .ensures)
 
 pub first-gives-spec : {M : Type 1} → statement M
 first-gives-spec =

@@ -28,12 +28,16 @@ live-child-requires : tie.Need-live-child-requires Inv-loop μ-loop
 live-child-requires c κs = search needs
 
 sub-t11 : tie.Need-sub-t11 Inv-loop μ-loop
-sub-t11 c = c .before .before .before .before .loop .inv .low
+sub-t11 c =
+    let loop = c .before .before .before .before .loop in
+    loop .inv .low
 
 returns : tie.Need-returns Inv-loop μ-loop
 returns c =
-    let next = next-step (c .before .before .before .before .before .before .before .before .args .steps .now) (c .before .before .before .before .loop .at) (omega arith) (c .before .before .get-step .ensures) in
-    follow-stop _ _ _ _ (c .before .before .before .before .loop .inv) next (c .before .live-child .ensures) (c .if1 .taken)
+    let args = c .before .before .before .before .before .before .before .before .args in
+    let loop = c .before .before .before .before .loop in
+    let read = next-step (args .steps .now) (loop .at) (omega arith) (c .before .before .get-step .ensures) in
+    follow-stop _ _ _ _ (loop .inv) read (c .before .live-child .ensures) (c .if1 .taken)
 
 add-at : tie.Need-add-at Inv-loop μ-loop
 add-at c = search needs
@@ -43,14 +47,19 @@ loop-less c = search needs
 
 loop-again : tie.Need-loop-again Inv-loop μ-loop
 loop-again c =
-    let next = next-step (c .before .before .before .before .before .before .before .before .args .steps .now) (c .before .before .before .before .loop .at) (omega arith) (c .before .before .get-step .ensures) in
-    follow-on _ _ _ _ (c .before .before .before .before .loop .inv) next (c .before .live-child .ensures) (c .if1 .left)
+    let args = c .before .before .before .before .before .before .before .before .args in
+    let loop = c .before .before .before .before .loop in
+    let read = next-step (args .steps .now) (loop .at) (omega arith) (c .before .before .get-step .ensures) in
+    follow-on _ _ _ _ (loop .inv) read (c .before .live-child .ensures) (c .if1 .left)
 
 sub-t12 : tie.Need-sub-t12 Inv-loop μ-loop
 sub-t12 c = c .before .loop .inv .low
 
 returns-2 : tie.Need-returns-2 Inv-loop μ-loop
-returns-2 c = follow-end _ _ _ _ (c .before .loop .inv) (steps-end (c .before .before .before .before .before .args .steps .now) {i = c .before .loop .at} (omega arith))
+returns-2 c =
+    let loop = c .before .loop in
+    let args = c .before .before .before .before .before .args in
+    follow-end _ _ _ _ (loop .inv) (steps-end (args .steps .now) {i = loop .at} (omega arith))
 
 pub follow-spec : {M : Type 1} → statement M
 follow-spec =

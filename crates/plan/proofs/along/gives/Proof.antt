@@ -23,14 +23,19 @@ dead-edges-requires c κs = search needs
 
 returns : tie.Need-returns
 returns c =
-    let a = c .before .before .before .before .before .before .before .before .args in
-    gives-back (parse (a .image .now)) (a .place) (stepIn (a .t)) (c .before .before .before .before .before .before .edge-of .ensures) (c .before .before .before .before .before .get-shape .ensures)
-    (c .before .before .before .counter .ensures) (c .before .before .has-edge .ensures) (c .before .if1 .taken) (c .dead-edges .ensures)
+    let args = c .before .before .before .before .before .before .before .before .args in
+    let edge-of = c .before .before .before .before .before .before .edge-of in
+    let get-shape = c .before .before .before .before .before .get-shape in
+    let counter = c .before .before .before .counter in
+    gives-back (parse (args .image .now)) (args .place) (stepIn (args .t)) (edge-of .ensures) (get-shape .ensures)
+    (counter .ensures) (c .before .before .has-edge .ensures) (c .before .if1 .taken) (c .dead-edges .ensures)
 
 returns-2 : tie.Need-returns-2
 returns-2 c =
-    let a = c .before .before .before .before .before .before .before .args in
-    gives-none (parse (a .image .now)) (a .place) (stepIn (a .t)) (c .before .before .before .before .before .edge-of .ensures) (c .before .before .before .before .get-shape .ensures)
+    let args = c .before .before .before .before .before .before .before .args in
+    let edge-of = c .before .before .before .before .before .edge-of in
+    let get-shape = c .before .before .before .before .get-shape in
+    gives-none (parse (args .image .now)) (args .place) (stepIn (args .t)) (edge-of .ensures) (get-shape .ensures)
     (c .before .before .counter .ensures) (c .before .has-edge .ensures) (c .if1 .left)
 
 pub gives-spec : {M : Type 1} → statement M

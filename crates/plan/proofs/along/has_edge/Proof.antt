@@ -24,21 +24,24 @@ enum-told-3 c = search needs
 
 returns : tie.Need-returns
 returns c =
-    let a = c .before .before .before .before .before .args in
+    let args = c .before .before .before .before .before .args in
+    let edge-of = c .before .before .before .edge-of in
     sym (ap isMade (c .enum-told .given .1))
-    ∙ is-made (parse (a .image .now)) (a .place) (stepIn (a .t)) (c .before .before .before .edge-of .ensures) (c .before .before .get .ensures)
+    ∙ is-made (parse (args .image .now)) (args .place) (stepIn (args .t)) (edge-of .ensures) (c .before .before .get .ensures)
 
 returns-2 : tie.Need-returns-2
 returns-2 c =
-    let a = c .before .before .before .before .before .args in
+    let args = c .before .before .before .before .before .args in
+    let edge-of = c .before .before .before .edge-of in
     sym (ap isMade (c .enum-told2 .given .1))
-    ∙ is-made (parse (a .image .now)) (a .place) (stepIn (a .t)) (c .before .before .before .edge-of .ensures) (c .before .before .get .ensures)
+    ∙ is-made (parse (args .image .now)) (args .place) (stepIn (args .t)) (edge-of .ensures) (c .before .before .get .ensures)
 
 returns-3 : tie.Need-returns-3
 returns-3 c =
-    let a = c .before .before .before .before .before .args in
+    let args = c .before .before .before .before .before .args in
+    let edge-of = c .before .before .before .edge-of in
     sym (ap isMade (c .enum-told3 .given .1))
-    ∙ is-made (parse (a .image .now)) (a .place) (stepIn (a .t)) (c .before .before .before .edge-of .ensures) (c .before .before .get .ensures)
+    ∙ is-made (parse (args .image .now)) (args .place) (stepIn (args .t)) (edge-of .ensures) (c .before .before .get .ensures)
 
 pub has-edge-spec : {M : Type 1} → statement M
 has-edge-spec =

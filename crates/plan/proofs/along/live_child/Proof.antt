@@ -24,21 +24,25 @@ enum-told-2 c = search needs
 
 returns : tie.Need-returns
 returns c =
-    let a = c .before .before .before .before .before .before .args in
+    let args = c .before .before .before .before .before .before .args in
+    let edge-of = c .before .before .before .before .edge-of in
+    let get = c .before .before .before .get in
     sym (ap liveChild (c .before .child .given .1))
-    ∙ live-child (parse (a .image .now)) (a .place) (stepIn (a .t)) (c .before .before .before .before .edge-of .ensures) (c .before .before .before .get .ensures)
+    ∙ live-child (parse (args .image .now)) (args .place) (stepIn (args .t)) (edge-of .ensures) (get .ensures)
 
 returns-2 : tie.Need-returns-2
 returns-2 c =
-    let a = c .before .before .before .before .before .args in
+    let args = c .before .before .before .before .before .args in
+    let edge-of = c .before .before .before .edge-of in
     sym (ap liveChild (c .enum-told .given .1))
-    ∙ live-child (parse (a .image .now)) (a .place) (stepIn (a .t)) (c .before .before .before .edge-of .ensures) (c .before .before .get .ensures)
+    ∙ live-child (parse (args .image .now)) (args .place) (stepIn (args .t)) (edge-of .ensures) (c .before .before .get .ensures)
 
 returns-3 : tie.Need-returns-3
 returns-3 c =
-    let a = c .before .before .before .before .before .args in
+    let args = c .before .before .before .before .before .args in
+    let edge-of = c .before .before .before .edge-of in
     sym (ap liveChild (c .enum-told2 .given .1))
-    ∙ live-child (parse (a .image .now)) (a .place) (stepIn (a .t)) (c .before .before .before .edge-of .ensures) (c .before .before .get .ensures)
+    ∙ live-child (parse (args .image .now)) (args .place) (stepIn (args .t)) (edge-of .ensures) (c .before .before .get .ensures)
 
 pub live-child-spec : {M : Type 1} → statement M
 live-child-spec =

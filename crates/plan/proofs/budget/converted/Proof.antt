@@ -7,10 +7,14 @@ returns : tie.Need-returns
 returns c = rw (c .before .before .if1 .taken, c .if2 .taken)
 
 returns-2 : tie.Need-returns-2
-returns-2 c = rw (c .before .before .before .before .if1 .taken, ne-eqb _ _ (c .before .before .if2 .left), c .if3 .taken)
+returns-2 c =
+    let if1 = c .before .before .before .before .if1 in
+    rw (if1 .taken, ne-eqb _ _ (c .before .before .if2 .left), c .if3 .taken)
 
 returns-3 : tie.Need-returns-3
-returns-3 c = rw (c .before .before .before .before .if1 .taken, ne-eqb _ _ (c .before .before .if2 .left), ne-eqb _ _ (c .if3 .left))
+returns-3 c =
+    let if1 = c .before .before .before .before .if1 in
+    rw (if1 .taken, ne-eqb _ _ (c .before .before .if2 .left), ne-eqb _ _ (c .if3 .left))
 
 returns-4 : tie.Need-returns-4
 returns-4 c = rw (c .if1 .left)

@@ -10,16 +10,23 @@ use Rattle.plan.proofs.budget.room_at.Statement.{statement}
 use Rattle.plan.proofs.budget.room_at.Tie as tie
 
 get-shape-requires : tie.Need-get-shape-requires
-get-shape-requires c κs = (c .before .pre .0, used-place-inside _ _ (c .before .pre .1 .1 .0))
+get-shape-requires c κs =
+    let pre = c .before .pre in
+    (pre .0, used-place-inside _ _ (pre .1 .1 .0))
 
 entry-count-requires : tie.Need-entry-count-requires
-entry-count-requires c κs = (c .before .before .pre .0, rw (c .get-shape .ensures) (table-inside _ (c .before .before .pre .1 .0) _ (c .before .before .pre .1 .1 .0)))
+entry-count-requires c κs =
+    let pre = c .before .before .pre in
+    (pre .0, rw (c .get-shape .ensures) (table-inside _ (pre .1 .0) _ (pre .1 .1 .0)))
 
 key-limit-requires : tie.Need-key-limit-requires
 key-limit-requires c κs = search needs
 
 sub-t7 : tie.Need-sub-t7
-sub-t7 c = rw (c .before .before .before .get-shape .ensures, c .before .key-limit .ensures) (keys-fit _ (c .before .before .before .before .before .pre .1 .0) _ (c .before .before .before .before .before .pre .1 .1 .0))
+sub-t7 c =
+    let get-shape = c .before .before .before .get-shape in
+    let pre = c .before .before .before .before .before .pre in
+    rw (get-shape .ensures, c .before .key-limit .ensures) (keys-fit _ (pre .1 .0) _ (pre .1 .1 .0))
 
 free-shapes-requires : tie.Need-free-shapes-requires
 free-shapes-requires c κs = search needs
@@ -32,15 +39,22 @@ free-edges-requires c κs = search needs
 
 add-t11 : tie.Need-add-t11
 add-t11 c =
-    let m = parse (c .before .before .before .before .before .before .before .before .args .image .now) in
+    let args = c .before .before .before .before .before .before .before .before .args in
+    let pre = c .before .before .before .before .before .before .before .before .pre in
+    let m = parse (args .image .now) in
     let free = length-keep freeEdge (m .edges) in
-    let all = c .before .before .before .before .before .before .before .before .pre .0 .limited .edges in
-    record { fits = omega (arith, c .free-edges .ensures, c .before .before .before .before .before .before .before .before .pre .1 .1 .1) }
+    let all = pre .0 .limited .edges in
+    record { fits = omega (arith, c .free-edges .ensures, pre .1 .1 .1) }
 
 returns : tie.Need-returns
 returns c =
-    room-read (parse (c .before .before .before .before .before .before .before .before .before .args .image .now)) (c .before .before .before .before .before .before .before .before .before .args .place) (c .before .before .before .before .before .before .before .before .before .args .back) (c .before .before .before .before .before .before .before .get-shape .ensures) (c .before .before .before .before .before .key-limit .ensures)
-    (c .before .before .before .before .before .before .entry-count .ensures) (c .before .before .before .free-shapes .ensures) (c .before .before .free-tables .ensures) (c .before .free-edges .ensures)
+    let args = c .before .before .before .before .before .before .before .before .before .args in
+    let get-shape = c .before .before .before .before .before .before .before .get-shape in
+    let key-limit = c .before .before .before .before .before .key-limit in
+    let entry-count = c .before .before .before .before .before .before .entry-count in
+    let free-shapes = c .before .before .before .free-shapes in
+    room-read (parse (args .image .now)) (args .place) (args .back) (get-shape .ensures) (key-limit .ensures)
+    (entry-count .ensures) (free-shapes .ensures) (c .before .before .free-tables .ensures) (c .before .free-edges .ensures)
 
 pub room-at-spec : {M : Type 1} → statement M
 room-at-spec =

@@ -11,26 +11,44 @@ returns : tie.Need-returns
 returns c = no-keys _ _ (c .before .before .added .ensures) (c .if1 .taken)
 
 returns-2 : tie.Need-returns-2
-returns-2 c = no-shape _ _ (c .before .before .before .before .added .ensures) (c .before .before .if1 .left) (c .if2 .taken)
+returns-2 c =
+    let added = c .before .before .before .before .added in
+    no-shape _ _ (added .ensures) (c .before .before .if1 .left) (c .if2 .taken)
 
 copies-requires : tie.Need-copies-requires
 copies-requires c κs = search needs
 
 returns-3 : tie.Need-returns-3
 returns-3 c =
-    no-table _ _ (c .before .before .before .before .before .before .before .added .ensures) (c .before .before .before .before .before .if1 .left) (c .before .before .before .if2 .left) (c .before .before .copies .ensures) (c .if3 .taken)
+    let added = c .before .before .before .before .before .before .before .added in
+    let if1 = c .before .before .before .before .before .if1 in
+    let if2 = c .before .before .before .if2 in
+    no-table _ _ (added .ensures) (if1 .left) (if2 .left) (c .before .before .copies .ensures) (c .if3 .taken)
 
 returns-4 : tie.Need-returns-4
 returns-4 c =
-    no-edge _ _ (c .before .before .before .before .before .before .before .before .before .added .ensures) (c .before .before .before .before .before .before .before .if1 .left) (c .before .before .before .before .before .if2 .left) (c .before .before .before .before .copies .ensures) (c .before .before .if3 .left) (c .if4 .taken)
+    let added = c .before .before .before .before .before .before .before .before .before .added in
+    let if1 = c .before .before .before .before .before .before .before .if1 in
+    let if2 = c .before .before .before .before .before .if2 in
+    let copies = c .before .before .before .before .copies in
+    no-edge _ _ (added .ensures) (if1 .left) (if2 .left) (copies .ensures) (c .before .before .if3 .left) (c .if4 .taken)
 
 spent-requires : tie.Need-spent-requires
 spent-requires c κs =
-    enough _ _ (c .before .before .before .before .before .before .before .before .before .added .ensures) (c .before .before .before .before .before .before .before .if1 .left) (c .before .before .before .before .before .if2 .left) (c .before .before .before .before .copies .ensures) (c .before .before .if3 .left) (c .if4 .left)
+    let added = c .before .before .before .before .before .before .before .before .before .added in
+    let if1 = c .before .before .before .before .before .before .before .if1 in
+    let if2 = c .before .before .before .before .before .if2 in
+    let copies = c .before .before .before .before .copies in
+    enough _ _ (added .ensures) (if1 .left) (if2 .left) (copies .ensures) (c .before .before .if3 .left) (c .if4 .left)
 
 returns-5 : tie.Need-returns-5
 returns-5 c =
-    step-left _ _ (c .before .before .before .before .before .before .before .before .before .before .added .ensures) (c .before .before .before .before .before .before .before .before .if1 .left) (c .before .before .before .before .before .before .if2 .left) (c .before .before .before .before .before .copies .ensures) (c .before .before .before .if3 .left) (c .before .if4 .left)
+    let added = c .before .before .before .before .before .before .before .before .before .before .added in
+    let if1 = c .before .before .before .before .before .before .before .before .if1 in
+    let if2 = c .before .before .before .before .before .before .if2 in
+    let copies = c .before .before .before .before .before .copies in
+    let if3 = c .before .before .before .if3 in
+    step-left _ _ (added .ensures) (if1 .left) (if2 .left) (copies .ensures) (if3 .left) (c .before .if4 .left)
     (c .spent .ensures)
 
 pub spend-spec : {M : Type 1} → statement M

@@ -32,8 +32,12 @@ enum-known-refusal c = search needs
 
 returns : tie.Need-returns Inv-loop μ-loop
 returns c =
-    let next = next-step (c .before .before .before .before .before .before .before .before .before .args .steps .now) (c .before .before .before .before .before .before .loop .at) (omega arith) (c .before .before .before .before .get-step .ensures) in
-    spend-refused _ _ _ (c .before .before .before .before .before .before .loop .inv) next (c .before .before .before .spend .ensures) (c .before .refusal .given .1)
+    let args = c .before .before .before .before .before .before .before .before .before .args in
+    let loop = c .before .before .before .before .before .before .loop in
+    let get-step = c .before .before .before .before .get-step in
+    let spend = c .before .before .before .spend in
+    let read = next-step (args .steps .now) (loop .at) (omega arith) (get-step .ensures) in
+    spend-refused _ _ _ (loop .inv) read (spend .ensures) (c .before .refusal .given .1)
 
 enum-known-next : tie.Need-enum-known-next Inv-loop μ-loop
 enum-known-next c = search needs
@@ -46,11 +50,18 @@ loop-less c = search needs
 
 loop-again : tie.Need-loop-again Inv-loop μ-loop
 loop-again c =
-    let next = next-step (c .before .before .before .before .before .before .before .before .before .args .steps .now) (c .before .before .before .before .before .before .loop .at) (omega arith) (c .before .before .before .before .get-step .ensures) in
-    spend-on _ _ _ (c .before .before .before .before .before .before .loop .inv) next (c .before .before .before .spend .ensures) (c .before .next .given .1)
+    let args = c .before .before .before .before .before .before .before .before .before .args in
+    let loop = c .before .before .before .before .before .before .loop in
+    let get-step = c .before .before .before .before .get-step in
+    let spend = c .before .before .before .spend in
+    let read = next-step (args .steps .now) (loop .at) (omega arith) (get-step .ensures) in
+    spend-on _ _ _ (loop .inv) read (spend .ensures) (c .before .next .given .1)
 
 returns-2 : tie.Need-returns-2 Inv-loop μ-loop
-returns-2 c = spend-end _ _ _ (c .before .loop .inv) (steps-end (c .before .before .before .before .args .steps .now) {i = c .before .loop .at} (omega arith))
+returns-2 c =
+    let loop = c .before .loop in
+    let args = c .before .before .before .before .args in
+    spend-end _ _ _ (loop .inv) (steps-end (args .steps .now) {i = loop .at} (omega arith))
 
 pub spend-all-spec : {M : Type 1} → statement M
 spend-all-spec =

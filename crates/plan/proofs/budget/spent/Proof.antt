@@ -11,24 +11,33 @@ added-requires c κs = search needs
 
 sub-t4 : tie.Need-sub-t4
 sub-t4 c =
-    let few = enough-keys (stepIn (c .before .before .args .t)) (c .before .before .args .room) (c .before .before .pre) in
+    let args = c .before .before .args in
+    let few = enough-keys (stepIn (args .t)) (args .room) (c .before .before .pre) in
     omega (arith, c .before .added .ensures)
 
 sub-t5 : tie.Need-sub-t5
-sub-t5 c = let some = c .before .before .before .pre .shapes in omega arith
+sub-t5 c =
+    let pre = c .before .before .before .pre in
+    let some = pre .shapes in omega arith
 
 tables-left-requires : tie.Need-tables-left-requires
-tables-left-requires c κs = c .before .before .before .pre .tables
+tables-left-requires c κs =
+    let pre = c .before .before .before .pre in
+    pre .tables
 
 sub-t7 : tie.Need-sub-t7
-sub-t7 c = let some = c .before .before .before .before .before .pre .edges in omega arith
+sub-t7 c =
+    let pre = c .before .before .before .before .before .pre in
+    let some = pre .edges in omega arith
 
 whole-after-requires : tie.Need-whole-after-requires
 whole-after-requires c κs = search needs
 
 returns : tie.Need-returns
 returns c =
-    spent-each (stepIn (c .before .before .before .before .before .before .args .t)) (c .before .before .before .before .before .before .args .room) (c .before .before .before .before .before .added .ensures) (c .before .before .tables-left .ensures)
+    let args = c .before .before .before .before .before .before .args in
+    let added = c .before .before .before .before .before .added in
+    spent-each (stepIn (args .t)) (args .room) (added .ensures) (c .before .before .tables-left .ensures)
     (c .whole-after .ensures)
 
 pub spent-spec : {M : Type 1} → statement M

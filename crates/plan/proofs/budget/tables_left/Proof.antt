@@ -10,7 +10,9 @@ copies-requires c κs = search needs
 
 sub-result : tie.Need-sub-result
 sub-result c =
-    let some = eqb-false (c .before .before .before .args .room .tables) 0 (rw (← c .before .before .copies .ensures, c .before .if1 .taken) at (c .before .before .before .pre)) in
+    let args = c .before .before .before .args in
+    let pre = c .before .before .before .pre in
+    let some = eqb-false (args .room .tables) 0 (rw (← c .before .before .copies .ensures, c .before .if1 .taken) at (pre)) in
     omega arith
 
 returns : tie.Need-returns
