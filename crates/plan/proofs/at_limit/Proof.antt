@@ -1,4 +1,5 @@
 -- `plan::at_limit` meets its contract. Assumes nothing.
+use Prim.Native.Nat.{_≤_}
 use native.Mathlib.Omega.{arith}
 use borrow.Author.Needs.{needs}
 use Rattle.store.specs.Layout.{parse}
@@ -19,7 +20,10 @@ cast-result c = search needs
 sub-result : tie.Need-sub-result
 sub-result c =
     let pre = c .before .before .before .pre in
-    rw (c .before .get-shape .ensures) (pre .1 .0 .shapes _ (pre .1 .1) .words .transitions)
+    let shape = c .before .get-shape in
+    let few : shape .result .transitions ≤ 1024
+    = rw (shape .ensures) (pre .1 .0 .shapes _ (pre .1 .1) .words .transitions) in
+    omega arith
 
 returns : tie.Need-returns
 returns c =
