@@ -6,6 +6,7 @@ use mathlib.Core.Logic.{_⊎_, inl, inr, _≢_}
 use mathlib.Core.Path.{_≡_, refl, ap}
 use Prim.Native.Nat.{ℕ, _+_, _≤_}
 use borrow.Author.Tests.{eqb-true}
+use native.Mathlib.Omega.{arith}
 use lib.Dec.{eqb}
 use lib.ListN.{length}
 use Rattle.store.specs.Model.{Table, free, used, Model, noCounters, noShape, noEdge, freeShape, freeTable}
@@ -162,3 +163,20 @@ transitions-child {s} w h = go (w .state) (either (eqb (s .previous) 0))
 
 pub child-shared : (s : Shape) → isChild s ≡ true → shared s ≡ true
 child-shared s c = and-both (shared s) c .0
+
+-- ## What a shape in use has
+
+module _ (m : Model) (sound : Sound m) (n : ℕ) (u : Used m n) where
+  pub table-inside : Place (length (m .tables)) (shapeAt m n .table)
+  unfolding tableAt
+  table-inside =
+      let inside = at-inside freeTable (m .tables) (shapeAt m n .table) free refl (sound .shapes n u .tableUsed) in
+      record { low = inside .0; high = inside .1 }
+
+  pub keys-fit : shapeAt m n .properties ≤ m .K
+  keys-fit =
+      let s = shapeAt m n in
+      let its = used-table (tableAt m (s .table)) (sound .shapes n u .tableUsed) in
+      let most = sound .tables (s .table) (tableOf m s) its .room in
+      let few = sound .shapes n u .countFits in
+      omega arith
