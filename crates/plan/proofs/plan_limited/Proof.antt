@@ -1,5 +1,4 @@
 -- `plan::plan_limited` meets its contract. Assumes nothing.
-use native.Mathlib.Omega.{arith}
 use borrow.Author.Needs.{needs}
 use lib.ListN.{drop}
 use Rattle.store.specs.Layout.{parse}

@@ -1,6 +1,5 @@
 -- `plan::plan_new` meets its contract. Assumes nothing.
 use native.Mathlib.Omega.{arith}
-use borrow.Author.Needs.{needs}
 use lib.ListN.{drop}
 use Rattle.store.specs.Layout.{parse}
 use Rattle.steps.specs.Records.{stepsIn}
