@@ -168,10 +168,7 @@ child-shared s c = and-both (shared s) c .0
 
 module _ (m : Model) (sound : Sound m) (n : ℕ) (u : Used m n) where
   pub table-inside : Place (length (m .tables)) (shapeAt m n .table)
-  unfolding tableAt
-  table-inside =
-      let inside = at-inside freeTable (m .tables) (shapeAt m n .table) free refl (sound .shapes n u .tableUsed) in
-      record { low = inside .0; high = inside .1 }
+  table-inside = used-table-inside m (shapeAt m n .table) (sound .shapes n u .tableUsed)
 
   pub keys-fit : shapeAt m n .properties ≤ m .K
   keys-fit =
