@@ -1,8 +1,10 @@
 -- What code says of a rule: the words afterwards and the answer, for a result and for a refusal.
 -- Assumes nothing.
 use mathlib.Core.List.{List}
-use mathlib.Core.Path.{_≡_}
+use mathlib.Core.Logic.{_≢_}
+use mathlib.Core.Path.{_≡_, ap}
 use Prim.Native.Nat.{ℕ}
+use borrow.Author.Tests.{ne-eqb}
 use lib.Dec.{eqb}
 use Rattle.slot.specs.If.{if_then_else_}
 use Rattle.store.specs.Image.{Becomes}
@@ -19,7 +21,28 @@ stepIn t =
     else if eqb (t .kind) 1 then configure (t .label) (t .attributes)
     else prototype (t .label)
 
+module _ (t : StepRecord) where
+  pub is-insert : t .kind ≡ 0 → stepIn t ≡ insert (t .label) (t .attributes)
+  is-insert e = rw e
+
+  pub is-configure : t .kind ≡ 1 → stepIn t ≡ configure (t .label) (t .attributes)
+  is-configure e = rw e
+
+  pub is-prototype : t .kind ≢ 0 → t .kind ≢ 1 → stepIn t ≡ prototype (t .label)
+  is-prototype a b = rw (ne-eqb (t .kind) 0 a, ne-eqb (t .kind) 1 b)
+
 -- "Every one .. leaves all lent words unchanged, prunes included."
 abbrev pub Places : (before after : List ℕ) → Got Placed → Placement → Type 0
 Places before after (ok (m, n)) r = Becomes before after m × (r ≡ At n)
 Places before after (refused x) r = (after ≡ before) × (r ≡ Refused x)
+
+-- The rule gives a result.
+abbrev pub Passes : {A : Type 0} → Got A → Type 0
+Passes {A} g = (y : A) × (g ≡ ok y)
+
+module _ {before after : List ℕ} {g : Got Placed} {y : Placed} (passed : g ≡ ok y) {r : ℕ} where
+  pub places : Becomes before after (y .0) → r ≡ y .1 → Places before after g (At r)
+  places became its = rw passed (became, ap At its)
+
+  pub placed : Places before after g (At r) → Becomes before after (y .0) × (r ≡ y .1)
+  placed p = let (became, its) = rw passed at p in (became, cc)
