@@ -7,7 +7,8 @@ use Prim.Native.Nat.{ℕ}
 use borrow.Author.Tests.{ne-eqb}
 use lib.Dec.{eqb}
 use Rattle.slot.specs.If.{if_then_else_}
-use Rattle.store.specs.Image.{Becomes}
+use Rattle.store.specs.Model.{Model}
+use Rattle.store.specs.Image.{Becomes, and-then}
 use Rattle.rules.specs.declared.StepRecord.{StepRecord}
 use Rattle.rules.specs.declared.Placement.{Placement}
 use Rattle.rules.specs.declared.Placement.the-variants.{At, Refused}
@@ -46,3 +47,10 @@ module _ {before after : List ℕ} {g : Got Placed} {y : Placed} (passed : g ≡
 
   pub placed : Places before after g (At r) → Becomes before after (y .0) × (r ≡ y .1)
   placed p = let (became, its) = rw passed at p in (became, cc)
+
+-- A change, and then a rule that gives a result.
+pub then-places : {a b : List ℕ} (c : List ℕ) {m : Model} {g : Got Placed} (r : ℕ) → Passes g
+    → Becomes a b m → Places b c g (At r) → Places a c g (At r)
+then-places c r (y, passed) first p =
+    let (became, its) = placed passed p in
+    places passed (and-then first became) its
