@@ -2,9 +2,9 @@
 -- Assumes nothing.
 use mathlib.Core.Bool.{Bool, false, _&&_}
 use mathlib.Core.List.{List}
-use mathlib.Core.Logic.{_≢_}
+use mathlib.Core.Logic.{_⊎_, inl, inr, _≢_}
 use mathlib.Core.Path.{_≡_, refl, sym, _∙_, ap}
-use Prim.Native.Nat.{ℕ, _≤_}
+use Prim.Native.Nat.{ℕ, _≤_, _<_}
 use native.Mathlib.Omega.{arith}
 use borrow.Author.Tests.{eq-eqb, leb-true}
 use lib.Dec.{eqb}
@@ -14,10 +14,11 @@ use Rattle.store.specs.Lists.{lowest}
 use Rattle.store.specs.Model.{Model, noShape, noEdge, freeShape, freeEdge, shapeAt, tableAt, putShape, putEdge}
 use Rattle.store.specs.Layout.{parse}
 use Rattle.store.specs.Image.{Formed, Place, Becomes, and-then}
-use Rattle.store.specs.PlaceLaws.{at-inside}
+use Rattle.store.specs.PlaceLaws.{at-inside, same?}
 use Rattle.store.specs.ListLaws.{and-both, both-and, not-both}
 use Rattle.store.specs.declared.Shape.{Shape}
 use Rattle.store.specs.declared.Edge.{Edge}
+use Rattle.rules.specs.declared.StepRecord.{StepRecord}
 use Rattle.rules.specs.declared.Placement.the-variants.{At}
 use Rattle.rules.specs.declared.Refusal.the-variants.{KeysFull, ShapesFull, EdgesFull}
 use Rattle.rules.specs.Numbers.{goodKey}
@@ -25,13 +26,32 @@ use Rattle.rules.specs.Shapes.{tableOf, entries}
 use Rattle.rules.specs.Sound.{goodLabel}
 use Rattle.rules.specs.Refusals.{ok, place}
 use Rattle.rules.specs.Settled.{guard-passed}
-use Rattle.rules.specs.Placing.{Passes, Places, places}
+use Rattle.rules.specs.Placing.{stepIn, is-insert, is-configure, is-prototype, Passes, Places, places}
 use Rattle.rules.specs.Steps.{Step, insert, configure, prototype, edgeOf, edgeAttributes, added, Placed}
 use Rattle.rules.specs.Steps.{childTable, childShape, grow}
 use Rattle.theorems.specs.Facts.{Used, Sound, shared-used, used-table}
 use Rattle.theorems.specs.Taken.{bind-passed, place-passed, place-lowest}
 use Rattle.theorems.specs.Child.{Legal}
 use Rattle.child_table.specs.Parents.{Parent}
+
+-- ## The records
+
+pub property-edge : (n c : ℕ) (t : StepRecord) → t .kind ≤ 1
+    → record { parent = n; kind = 0; label = t .label; attributes = t .attributes; child = c }
+    ≡ edgeOf n (stepIn t) c
+property-edge n c t low = go (same? (t .kind) 0)
+  where
+    go : (t .kind ≡ 0) ⊎ (t .kind ≢ 0)
+        → record { parent = n; kind = 0; label = t .label; attributes = t .attributes; child = c }
+        ≡ edgeOf n (stepIn t) c
+    go (inl e) = rw (is-insert t e)
+    go (inr e) = rw (is-configure t (omega arith))
+
+pub prototype-edge : (n c : ℕ) (t : StepRecord) → 1 < t .kind
+    → record { parent = n; kind = 1; label = t .label; attributes = 0; child = c } ≡ edgeOf n (stepIn t) c
+prototype-edge n c t high = rw (is-prototype t (λ e. omega arith) (λ e. omega arith))
+
+-- ## The places
 
 pub shape-place : (m : Model) (n : ℕ) (t : Step) → Legal m n t → Place (length (m .shapes)) n
 unfolding shapeAt
@@ -63,16 +83,17 @@ grows m n t {c} (y, e) its =
     let edges = b .result .0 .edges in
     let d = bind-passed (place EdgesFull freeEdge edges) _ y (b .below) in
     let same : a .result ≡ c = place-lowest ShapesFull freeShape (m .shapes) (a .result) (a .gave) ∙ sym its in
-    let p = place-passed ShapesFull freeShape noShape (m .shapes) c (rw same at (a .gave)) in
+    let p = place-passed ShapesFull freeShape noShape (m .shapes) (a .result) (a .gave) in
     let free = place-lowest EdgesFull freeEdge edges (d .result) (d .gave) in
     let q = place-passed EdgesFull freeEdge noEdge edges (d .result) (d .gave) in
+    rw (← same)
     record {
       room = λ one full. not-both (both-and (eq-eqb (added t) 1 one) (eq-eqb (s .properties) (m .K) full)) few;
       target = record { low = p .low; high = p .high };
       tabled = b .result;
       table = b .gave;
       edge = rw free at (q .low);
-      gave = e ∙ sym (rw (same, free) at (d .below));
+      gave = e ∙ sym (rw free at (d .below));
     }
 
 label-low : (m : Model) (n : ℕ) (t : Step) → Legal m n t → edgeAttributes t ≤ 31
@@ -96,6 +117,17 @@ parent m sound n t legal g =
       low = label-low m n t legal;
     }
 
+-- No count of the child wraps.
+pub counts-fit : {ws : List ℕ} → Formed ws → {n : ℕ} {t : Step} → Legal (parse ws) n t → {s : Shape}
+    → s ≡ shapeAt (parse ws) n → Parent (parse ws) s t → (s .transitions ≤ 1024) × (s .properties ≤ 2048)
+counts-fit f legal {s} read p =
+    let below = legal .below in
+    let count = ap (λ (x : Shape). x .transitions) read in
+    let keys = f .limited .keys in
+    let few = p .good .room in
+    let fits = p .fits in
+    (omega arith, omega arith)
+
 -- The table was seen to, and then the shape was put there.
 module _ {m : Model} {n : ℕ} {t : Step} {c : ℕ} (g : Grows m n t c) {x : Shape} {table : ℕ} {a b d : List ℕ}
     (first : Becomes a b (g .tabled .0) × (table ≡ g .tabled .1))
@@ -114,6 +146,7 @@ module _ {m : Model} {n : ℕ} {t : Step} {c : ℕ} (g : Grows m n t c) {x : Sha
   grown {w} {e} same third =
       let shape : x ≡ childShape n (shapeAt m n) t (g .tabled .1)
           = its ∙ ap (childShape n (shapeAt m n) t) (first .1) in
-      let then = and-then second (rw (edges-stay, same) at third) in
-      places (g .gave)
-      (and-then (first .0) (rw (second .parsed, first .0 .parsed, shape) at then)) refl
+      let whole : parse d ≡ putShape (g .tabled .0) c (childShape n (shapeAt m n) t (g .tabled .1))
+          = second .parsed ∙ rw (first .0 .parsed, shape) in
+      let place = ap (lowest freeEdge 1) edges-stay in
+      places (g .gave) (and-then (first .0) (and-then second (rw (place, whole, same) at third))) refl

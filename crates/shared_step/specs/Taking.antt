@@ -8,12 +8,15 @@ use Prim.Native.Nat.{ℕ}
 use native.Mathlib.Omega.{arith}
 use lib.Dec.{eqb}
 use Rattle.slot.specs.If.{if_then_else_}
+use Rattle.store.specs.Lists.{first}
 use Rattle.store.specs.Model.{Model}
 use Rattle.store.specs.Layout.{parse}
-use Rattle.store.specs.Image.{Formed, Becomes}
+use Rattle.store.specs.Image.{Formed, Becomes, and-then}
 use Rattle.store.specs.declared.Edge.{Edge}
+use Rattle.rules.specs.declared.Placement.the-variants.{At}
 use Rattle.rules.specs.Refusals.{Got, ok}
-use Rattle.rules.specs.Steps.{Step, edgeKind, Placed, pruned, make, along}
+use Rattle.rules.specs.Placing.{Passes, Places, places, placed}
+use Rattle.rules.specs.Steps.{Step, edgeKind, edgeOf, alike, Placed, pruned, counted, grow, make, along, step}
 use Rattle.theorems.specs.Facts.{Used, Sound}
 use Rattle.theorems.specs.Frame.{Keeps}
 use Rattle.theorems.specs.Child.{Legal}
@@ -38,9 +41,26 @@ able-again {a} {j = j} {n = n} {t = t} legal keeps became =
       legal = rw (became .parsed) (legal-again (parse a) j keeps n t legal);
     }
 
+-- A change, and then a rule that gives what was to be given.
+pub go-on : {a b : List ℕ} (c : List ℕ) {m : Model} {g h : Got Placed} (r : ℕ) → g ≡ h → Passes h
+    → Becomes a b m → Places b c g (At r) → Places a c h (At r)
+go-on c r same (y, passed) first p =
+    let (became, its) = placed (same ∙ passed) p in
+    places passed (and-then first became) its
+
+-- The parent's counter was seen to, or its dead edges were pruned.
+module _ {a b : List ℕ} (n : ℕ) (t : Step) {kind : ℕ} (same : kind ≡ edgeKind t) where
+  pub after-count : Becomes a b (counted (parse a) n kind) → grow (parse b) n t ≡ make (parse a) n t
+  unfolding make
+  after-count up = rw (up .parsed, same)
+
+  pub after-prune : Becomes a b (pruned (parse a) n kind)
+      → make (parse b) n t ≡ make (pruned (parse a) n (edgeKind t)) n t
+  after-prune less = rw (less .parsed, same)
+
 -- The three ways on.
-module _ {m : Model} {n : ℕ} {t : Step} where
-  pub along-live : (o : Option Edge) {c : ℕ} → transitionOf o ≡ Live c → along o m n t ≡ ok (m, c)
+module _ (m : Model) (n : ℕ) (t : Step) where
+  along-live : (o : Option Edge) {c : ℕ} → transitionOf o ≡ Live c → along o m n t ≡ ok (m, c)
   along-live none e = let z : _≡_ {A = ℕ} 0 1 = cc in absurd (omega arith)
   along-live (some x) {c} e = go (eqb (x .child) 0) e
     where
@@ -49,7 +69,7 @@ module _ {m : Model} {n : ℕ} {t : Step} where
       go true e = let z : _≡_ {A = ℕ} 0 1 = cc in absurd (omega arith)
       go false e = let z : x .child ≡ c = cc in rw z
 
-  pub along-dead : (o : Option Edge) → transitionOf o ≡ Dead
+  along-dead : (o : Option Edge) → transitionOf o ≡ Dead
       → along o m n t ≡ make (pruned m n (edgeKind t)) n t
   along-dead none e = let z : _≡_ {A = ℕ} 0 1 = cc in absurd (omega arith)
   along-dead (some x) e = go (eqb (x .child) 0) e
@@ -60,7 +80,7 @@ module _ {m : Model} {n : ℕ} {t : Step} where
       go true e = refl
       go false e = let z : _≡_ {A = ℕ} 0 1 = cc in absurd (omega arith)
 
-  pub along-absent : (o : Option Edge) → transitionOf o ≡ Absent → along o m n t ≡ make m n t
+  along-absent : (o : Option Edge) → transitionOf o ≡ Absent → along o m n t ≡ make m n t
   along-absent none e = refl
   along-absent (some x) e = go (eqb (x .child) 0) e
     where
@@ -68,3 +88,24 @@ module _ {m : Model} {n : ℕ} {t : Step} where
           → (if b then make (pruned m n (edgeKind t)) n t else ok (m, x .child)) ≡ make m n t
       go true e = let z : _≡_ {A = ℕ} 0 1 = cc in absurd (omega arith)
       go false e = let z : _≡_ {A = ℕ} 0 1 = cc in absurd (omega arith)
+
+-- The edges were asked for the step's.
+module _ (m : Model) (n : ℕ) (t : Step) {wanted : Edge} (its : wanted ≡ edgeOf n t 0) {found : Transition}
+    (seen : found ≡ transitionOf (first (alike wanted) (m .edges))) where
+  abbrev o : Option Edge
+  o = first (alike (edgeOf n t 0)) (m .edges)
+
+  asked : transitionOf o ≡ found
+  asked = sym (rw its at seen)
+
+  pub step-live : {c : ℕ} → found ≡ Live c → step m n t ≡ ok (m, c)
+  unfolding step
+  step-live e = along-live m n t o (asked ∙ e)
+
+  pub step-dead : found ≡ Dead → step m n t ≡ make (pruned m n (edgeKind t)) n t
+  unfolding step
+  step-dead e = along-dead m n t o (asked ∙ e)
+
+  pub step-absent : found ≡ Absent → step m n t ≡ make m n t
+  unfolding step
+  step-absent e = along-absent m n t o (asked ∙ e)

@@ -1,28 +1,24 @@
+-- `shared_step::child_shape` meets its contract. Assumes nothing.
+use native.Mathlib.Nat.{add-zero}
+use Rattle.rules.specs.Placing.{is-insert, is-configure, is-prototype}
 use borrow.Author.Needs.{needs}
 use Rattle.shared_step.proofs.child_shape.Statement.{statement}
 use Rattle.shared_step.proofs.child_shape.Tie as tie
-use Rattle.shared_step.proofs.child_shape.Reads as reads
-use Rattle.shared_step.proofs.child_shape.Lts as lts
 
--- src/lib.rt:70:22
 add-t6 : tie.Need-add-t6
 add-t6 c = search needs
 
--- src/lib.rt:80:28
 add-child : tie.Need-add-child
 add-child c = search needs
 
--- src/lib.rt:81:9
 returns : tie.Need-returns
-returns c = search needs
+returns c = rw (is-insert (c .before .before .before .before .args .t) (c .before .if1 .taken), c .before .if1 .taken)
 
--- src/lib.rt:84:9
 returns-2 : tie.Need-returns-2
-returns-2 c = search needs
+returns-2 c = rw (is-configure (c .before .before .before .before .before .args .t) (c .if2 .taken), c .if2 .taken, add-zero)
 
--- src/lib.rt:60:1
 returns-3 : tie.Need-returns-3
-returns-3 c = search needs
+returns-3 c = rw (is-prototype (c .before .before .before .before .before .args .t) (c .before .before .if1 .left) (c .if2 .left), add-zero)
 
 pub child-shape-spec : {M : Type 1} → statement M
 child-shape-spec = tie.close (tie.spec add-t6 add-child returns returns-2 returns-3)
