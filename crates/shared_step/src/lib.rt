@@ -7,6 +7,8 @@ use forward_transition::count_up;
 use forward_transition::get;
 use forward_transition::prune_transitions;
 use rules::StepRecord;
+use steps::get_step;
+use steps::step_count;
 use store::Counters;
 use store::Edge;
 use store::Shape;
@@ -18,10 +20,13 @@ ghost use Prim.Native.Nat.{_≤_, _<_};
 ghost use Rattle.store.specs.Layout.{parse};
 ghost use Rattle.store.specs.Image.{Formed};
 ghost use Rattle.rules.specs.declared.Placement.the-variants.{At};
-ghost use Rattle.rules.specs.Steps.{edgeOf, childShape, grow, make, step};
+ghost use lib.ListN.{drop};
+ghost use Rattle.rules.specs.Steps.{edgeOf, childShape, grow, make, step, steps};
 ghost use Rattle.rules.specs.Placing.{stepIn, Places, Passes};
 ghost use Rattle.theorems.specs.Facts.{Sound};
 ghost use Rattle.theorems.specs.Child.{Legal};
+ghost use Rattle.plan.specs.PlanRight.{LegalSteps};
+ghost use Rattle.steps.specs.Records.{stepsIn};
 
 const INSERT: u32 = 0;
 
@@ -138,4 +143,26 @@ pub fn take_step(image: &mut [u32], n: u32, t: StepRecord) -> u32
         }
         Transition::Absent => make(image, n, t),
     }
+}
+
+// The steps of the list, from the one at `start` on.
+pub fn take_steps(image: &mut [u32], n: u32, list: &[u32], start: usize) -> u32
+    requires { ⌜ Formed (now image) ⌝ }
+    requires { ⌜ Sound (parse (now image)) ⌝ }
+    requires { ⌜ LegalSteps (drop start (stepsIn (now list))) (parse (now image)) n ⌝ }
+    requires { ⌜ Passes (steps (drop start (stepsIn (now list))) (parse (now image)) n) ⌝ }
+    ensures { λ r. ⌜
+        Places (now (image .entry)) (now (image .exit))
+        (steps (drop start (stepsIn (now (list .entry)))) (parse (now (image .entry))) n) (At r)
+        ⌝ }
+{
+    let count = step_count(list);
+    let mut reached = n;
+    let mut i = start;
+    while i < count {
+        let t = get_step(list, i);
+        reached = take_step(image, reached, t);
+        i += 1;
+    }
+    reached
 }

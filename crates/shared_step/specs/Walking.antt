@@ -1,0 +1,74 @@
+-- Several steps, taken one after the other.
+-- Assumes nothing.
+use mathlib.Core.List.{List, [], _∷_}
+use mathlib.Core.Path.{_≡_, refl, sym, _∙_, ap}
+use Prim.Native.Nat.{ℕ, suc, _+_, _≤_, _<_}
+use native.Mathlib.Numerals.{add-one}
+use native.Mathlib.Omega.{arith}
+use lib.ListN.{length, drop, getD, length-map, drop-of-length-le}
+use Rattle.store.specs.Layout.{parse}
+use Rattle.store.specs.Image.{Formed, Becomes, unchanged, and-then}
+use Rattle.rules.specs.declared.Placement.the-variants.{At}
+use Rattle.rules.specs.declared.StepRecord.{StepRecord}
+use Rattle.rules.specs.Placing.{stepIn, Passes, Places, places, placed}
+use Rattle.rules.specs.Steps.{Step, Placed, step, steps}
+use Rattle.theorems.specs.Facts.{Sound}
+use Rattle.theorems.specs.Taken.{bind-passed}
+use Rattle.theorems.specs.Child.{Legal}
+use Rattle.theorems.specs.Stepped.{step-took}
+use Rattle.plan.specs.PlanRight.{LegalSteps}
+use Rattle.steps.specs.Records.{records, noStep, stepsIn, steps-from}
+
+-- A loop over the steps in ws, at the i-th, has reached the shape at p.
+pub record Walking (before : List ℕ) (n : ℕ) (ws : List ℕ) (start i : ℕ) (now : List ℕ) (p : ℕ) : Type 0 where
+  pub so-far : Becomes before now (parse now)
+  pub sound : Sound (parse now)
+  pub legal : LegalSteps (drop i (stepsIn ws)) (parse now) p
+  pub rest : steps (drop i (stepsIn ws)) (parse now) p ≡ steps (drop start (stepsIn ws)) (parse before) n
+
+module _ {before : List ℕ} {n : ℕ} {ws : List ℕ} {start : ℕ} where
+  pub walk-start : Formed before → Sound (parse before)
+      → LegalSteps (drop start (stepsIn ws)) (parse before) n → Walking before n ws start start before n
+  walk-start f sound legal = record { so-far = unchanged f; sound = sound; legal = legal; rest = refl }
+
+  module _ {i : ℕ} {now : List ℕ} {p : ℕ} (w : Walking before n ws start i now p) where
+    pub walk-end : length (records ws) ≤ i
+        → Places before now (steps (drop start (stepsIn ws)) (parse before) n) (At p)
+    unfolding steps
+    walk-end past =
+        let none = drop-of-length-le (stepsIn ws) {i = i} (rw length-map past) in
+        places (sym (rw none at (w .rest))) (w .so-far) refl
+
+    module _ (passes : Passes (steps (drop start (stepsIn ws)) (parse before) n)) (more : i < length (records ws))
+        {t : StepRecord} (read : t ≡ getD (records ws) i noStep) where
+      this-and-more : drop i (stepsIn ws) ≡ stepIn t ∷ drop (suc i) (stepsIn ws)
+      this-and-more = rw read (steps-from ws i more)
+
+      next-legal : LegalSteps (stepIn t ∷ drop (suc i) (stepsIn ws)) (parse now) p
+      next-legal = rw this-and-more at (w .legal)
+
+      pub step-legal : Legal (parse now) p (stepIn t)
+      step-legal = next-legal .0
+
+      pub step-passes : Passes (step (parse now) p (stepIn t))
+      unfolding steps
+      step-passes =
+          let (y, passed) = passes in
+          let b = bind-passed (step (parse now) p (stepIn t)) _ y (rw this-and-more at (w .rest) ∙ passed) in
+          (b .result, b .gave)
+
+      pub walk-on : {new : List ℕ} {q : ℕ} → Places now new (step (parse now) p (stepIn t)) (At q)
+          → Walking before n ws start (i + 1) new q
+      unfolding steps
+      walk-on taken =
+          let (y, gave) = step-passes in
+          let (became, its) = placed gave taken in
+          let took = step-took (parse now) (w .sound) p (stepIn t) step-legal y gave in
+          let rest = rw (this-and-more, gave) at (w .rest) in
+          rw (add-one i, its)
+          record {
+            so-far = rw (became .parsed) (and-then (w .so-far) became);
+            sound = rw (became .parsed) (took .keeps .isSound);
+            legal = rw (became .parsed) (next-legal .1 y gave);
+            rest = rw (became .parsed) rest;
+          }
