@@ -2,7 +2,7 @@
 -- Assumes nothing.
 use mathlib.Core.List.{List}
 use mathlib.Core.Logic.{_≢_}
-use mathlib.Core.Path.{_≡_, ap}
+use mathlib.Core.Path.{_≡_, _∙_, ap}
 use Prim.Native.Nat.{ℕ}
 use borrow.Author.Tests.{ne-eqb}
 use lib.Dec.{eqb}
@@ -22,6 +22,7 @@ stepIn t =
     else if eqb (t .kind) 1 then configure (t .label) (t .attributes)
     else prototype (t .label)
 
+-- What its kind says.
 module _ (t : StepRecord) where
   pub is-insert : t .kind ≡ 0 → stepIn t ≡ insert (t .label) (t .attributes)
   is-insert e = rw e
@@ -41,6 +42,7 @@ Places before after (refused x) r = (after ≡ before) × (r ≡ Refused x)
 abbrev pub Passes : {A : Type 0} → Got A → Type 0
 Passes {A} g = (y : A) × (g ≡ ok y)
 
+-- It then says the words and the place, and no more.
 module _ {before after : List ℕ} {g : Got Placed} {y : Placed} (passed : g ≡ ok y) {r : ℕ} where
   pub places : Becomes before after (y .0) → r ≡ y .1 → Places before after g (At r)
   places became its = rw passed (became, ap At its)
@@ -48,9 +50,9 @@ module _ {before after : List ℕ} {g : Got Placed} {y : Placed} (passed : g ≡
   pub placed : Places before after g (At r) → Becomes before after (y .0) × (r ≡ y .1)
   placed p = let (became, its) = rw passed at p in (became, cc)
 
--- A change, and then a rule that gives a result.
-pub then-places : {a b : List ℕ} (c : List ℕ) {m : Model} {g : Got Placed} (r : ℕ) → Passes g
-    → Becomes a b m → Places b c g (At r) → Places a c g (At r)
-then-places c r (y, passed) first p =
-    let (became, its) = placed passed p in
+-- A change, and then a rule that gives what h gives.
+pub then-places : {a b : List ℕ} (c : List ℕ) {m : Model} {g h : Got Placed} (r : ℕ) → g ≡ h → Passes h
+    → Becomes a b m → Places b c g (At r) → Places a c h (At r)
+then-places c r same (y, passed) first p =
+    let (became, its) = placed (same ∙ passed) p in
     places passed (and-then first became) its

@@ -3,7 +3,7 @@
 use mathlib.Core.Bool.{Bool, false, _&&_}
 use mathlib.Core.List.{List}
 use mathlib.Core.Logic.{_⊎_, inl, inr, _≢_}
-use mathlib.Core.Path.{_≡_, refl, sym, _∙_, ap}
+use mathlib.Core.Path.{_≡_, refl, sym, _∙_, ap, ap₂}
 use Prim.Native.Nat.{ℕ, _≤_, _<_}
 use native.Mathlib.Omega.{arith}
 use borrow.Author.Tests.{eq-eqb, leb-true}
@@ -24,9 +24,10 @@ use Rattle.rules.specs.declared.Refusal.the-variants.{KeysFull, ShapesFull, Edg
 use Rattle.rules.specs.Numbers.{goodKey}
 use Rattle.rules.specs.Shapes.{tableOf, entries}
 use Rattle.rules.specs.Sound.{goodLabel}
-use Rattle.rules.specs.Refusals.{ok, place}
+use Rattle.rules.specs.Refusals.{Got, ok, place}
 use Rattle.rules.specs.Settled.{guard-passed}
-use Rattle.rules.specs.Placing.{stepIn, is-insert, is-configure, is-prototype, Passes, Places, places}
+use Rattle.rules.specs.Placing.{stepIn, is-insert, is-configure, is-prototype}
+use Rattle.rules.specs.Placing.{Passes, Places, places, placed}
 use Rattle.rules.specs.Steps.{Step, insert, configure, prototype, edgeOf, edgeAttributes, added, Placed}
 use Rattle.rules.specs.Steps.{childTable, childShape, grow}
 use Rattle.theorems.specs.Facts.{Used, Sound, shared-used, used-table}
@@ -53,25 +54,30 @@ prototype-edge n c t high = rw (is-prototype t (λ e. omega arith) (λ e. omega 
 
 -- ## The places
 
-pub shape-place : (m : Model) (n : ℕ) (t : Step) → Legal m n t → Place (length (m .shapes)) n
+-- What a rule g asks that takes the step t from the shape at n.
+abbrev pub Ready : (ws : List ℕ) (n : ℕ) (t : Step) → Got Placed → Type 0
+Ready ws n t g = Formed ws × (Sound (parse ws) × (Legal (parse ws) n t × Passes g))
+
+pub shape-place : {ws : List ℕ} {n : ℕ} {t : Step} {g : Got Placed} → Ready ws n t g
+    → Place (length (parse ws .shapes)) n
 unfolding shapeAt
-shape-place m n t legal =
-    let u = shared-used (shapeAt m n) (legal .isShared) in
-    let (low, high) = at-inside freeShape (m .shapes) n noShape refl u in
+shape-place {ws} {n} (f, (sound, (legal, passes))) =
+    let u = shared-used (shapeAt (parse ws) n) (legal .isShared) in
+    let (low, high) = at-inside freeShape (parse ws .shapes) n noShape refl u in
     record { low = low; high = high }
 
 -- A child that is not refused stands at c.
-pub record Grows (m : Model) (n : ℕ) (t : Step) (c : ℕ) : Type 0 where
-  pub room : added t ≡ 1 → shapeAt m n .properties ≢ m .K
-  pub target : Place (length (m .shapes)) c
-  pub tabled : Placed
-  pub table : childTable m (shapeAt m n) t ≡ ok tabled
-  pub edge : 1 ≤ lowest freeEdge 1 (tabled .0 .edges)
-  pub gave : grow m n t
+record Grows (m : Model) (n : ℕ) (t : Step) (c : ℕ) : Type 0 where
+  room : added t ≡ 1 → shapeAt m n .properties ≢ m .K
+  target : Place (length (m .shapes)) c
+  tabled : Placed
+  table : childTable m (shapeAt m n) t ≡ ok tabled
+  edge : 1 ≤ lowest freeEdge 1 (tabled .0 .edges)
+  gave : grow m n t
       ≡ ok (putEdge (putShape (tabled .0) c (childShape n (shapeAt m n) t (tabled .1)))
       (lowest freeEdge 1 (tabled .0 .edges)) (edgeOf n t c), c)
 
-pub grows : (m : Model) (n : ℕ) (t : Step) {c : ℕ} → Passes (grow m n t) → c ≡ lowest freeShape 1 (m .shapes)
+grows : (m : Model) (n : ℕ) (t : Step) {c : ℕ} → Passes (grow m n t) → c ≡ lowest freeShape 1 (m .shapes)
     → Grows m n t c
 unfolding grow
 grows m n t {c} (y, e) its =
@@ -103,7 +109,7 @@ label-low m n (configure k a) legal =
     leb-true a 31 (and-both (goodKey k) (and-both (goodKey k && goodAttributes a) (legal .label) .0) .1)
 label-low m n (prototype p) legal = omega arith
 
-pub parent : (m : Model) → Sound m → (n : ℕ) (t : Step) → Legal m n t → {c : ℕ} → Grows m n t c
+parent : (m : Model) → Sound m → (n : ℕ) (t : Step) → Legal m n t → {c : ℕ} → Grows m n t c
     → Parent m (shapeAt m n) t
 parent m sound n t legal g =
     let s = shapeAt m n in
@@ -117,36 +123,64 @@ parent m sound n t legal g =
       low = label-low m n t legal;
     }
 
--- No count of the child wraps.
-pub counts-fit : {ws : List ℕ} → Formed ws → {n : ℕ} {t : Step} → Legal (parse ws) n t → {s : Shape}
-    → s ≡ shapeAt (parse ws) n → Parent (parse ws) s t → (s .transitions ≤ 1024) × (s .properties ≤ 2048)
-counts-fit f legal {s} read p =
-    let below = legal .below in
-    let count = ap (λ (x : Shape). x .transitions) read in
-    let keys = f .limited .keys in
-    let few = p .good .room in
-    let fits = p .fits in
-    (omega arith, omega arith)
+-- ## The words
 
--- The table was seen to, and then the shape was put there.
-module _ {m : Model} {n : ℕ} {t : Step} {c : ℕ} (g : Grows m n t c) {x : Shape} {table : ℕ} {a b d : List ℕ}
-    (first : Becomes a b (g .tabled .0) × (table ≡ g .tabled .1))
-    (its : x ≡ childShape n (shapeAt m n) t table)
-    (second : Becomes b d (putShape (parse b) c x)) where
-  edges-stay : parse d .edges ≡ g .tabled .0 .edges
-  unfolding putShape
-  edges-stay = ap (λ (j : Model). j .edges) (second .parsed) ∙ ap (λ (j : Model). j .edges) (first .0 .parsed)
+-- The parent was read, and the child's place found.
+module _ {a : List ℕ} {n : ℕ} {t : Step} (ready : Ready a n t (grow (parse a) n t)) {s : Shape}
+    (read : s ≡ shapeAt (parse a) n) {c : ℕ} (free : c ≡ lowest freeShape 1 (parse a .shapes)) where
+  abbrev m : Model
+  m = parse a
 
-  pub edge-free : 1 ≤ lowest freeEdge 1 (parse d .edges)
-  edge-free = rw edges-stay (g .edge)
+  g : Grows m n t c
+  g = grows m n t (ready .1 .1 .1) free
 
-  pub grown : {w : List ℕ} {e : Edge} → e ≡ edgeOf n t c
-      → Becomes d w (putEdge (parse d) (lowest freeEdge 1 (parse d .edges)) e)
-      → Places a w (grow m n t) (At c)
-  grown {w} {e} same third =
-      let shape : x ≡ childShape n (shapeAt m n) t (g .tabled .1)
-          = its ∙ ap (childShape n (shapeAt m n) t) (first .1) in
-      let whole : parse d ≡ putShape (g .tabled .0) c (childShape n (shapeAt m n) t (g .tabled .1))
-          = second .parsed ∙ rw (first .0 .parsed, shape) in
-      let place = ap (lowest freeEdge 1) edges-stay in
-      places (g .gave) (and-then (first .0) (and-then second (rw (place, whole, same) at third))) refl
+  its-parent : Parent m s t
+  its-parent = let (f, (sound, (legal, passes))) = ready in rw read (parent m sound n t legal g)
+
+  table-given : childTable m s t ≡ ok (g .tabled)
+  table-given = ap (λ (x : Shape). childTable m x t) read ∙ g .table
+
+  pub table-ready : Formed a × (Parent m s t × Passes (childTable m s t))
+  table-ready = (ready .0, (its-parent, (g .tabled, table-given)))
+
+  -- No count of the child wraps.
+  pub counts-fit : (s .transitions ≤ 1024) × (s .properties ≤ 2048)
+  counts-fit =
+      let (f, (sound, (legal, passes))) = ready in
+      let below = legal .below in
+      let count = ap (λ (x : Shape). x .transitions) read in
+      let keys = f .limited .keys in
+      let few = its-parent .good .room in
+      let fits = its-parent .fits in
+      (omega arith, omega arith)
+
+  -- Its table was seen to,
+  module _ (b : List ℕ) (table : ℕ) (first : Places a b (childTable m s t) (At table)) where
+    tabled : Becomes a b (g .tabled .0) × (table ≡ g .tabled .1)
+    tabled = placed table-given first
+
+    pub shape-ready : Formed b × Place (length (parse b .shapes)) c
+    shape-ready = (tabled .0 .formed, rw (tabled .0 .sizes .shapes) (g .target))
+
+    -- then the shape was put there,
+    module _ {x : Shape} (its : x ≡ childShape n s t table) {d : List ℕ}
+        (second : Becomes b d (putShape (parse b) c x)) where
+      whole : parse d ≡ putShape (g .tabled .0) c (childShape n (shapeAt m n) t (g .tabled .1))
+      whole =
+          let shape = its ∙ ap₂ (λ (y : Shape) (p : ℕ). childShape n y t p) read (tabled .1) in
+          second .parsed ∙ ap₂ (λ (j : Model) (y : Shape). putShape j c y) (tabled .0 .parsed) shape
+
+      same-place : lowest freeEdge 1 (parse d .edges) ≡ lowest freeEdge 1 (g .tabled .0 .edges)
+      unfolding putShape
+      same-place = ap (λ (j : Model). lowest freeEdge 1 (j .edges)) whole
+
+      pub edge-ready : Formed d × (1 ≤ lowest freeEdge 1 (parse d .edges))
+      edge-ready = (second .formed, rw same-place (g .edge))
+
+      -- and then the edge.
+      pub grown : {w : List ℕ} {e : Edge} → e ≡ edgeOf n t c
+          → Becomes d w (putEdge (parse d) (lowest freeEdge 1 (parse d .edges)) e)
+          → Places a w (grow m n t) (At c)
+      grown same third =
+          let last = and-then second (rw (same-place, whole, same) at third) in
+          places (g .gave) (and-then (tabled .0) last) refl

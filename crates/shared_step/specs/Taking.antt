@@ -4,61 +4,66 @@ use mathlib.Core.Bool.{Bool, true, false}
 use mathlib.Core.List.{List}
 use mathlib.Core.Option.{Option, none, some}
 use mathlib.Core.Path.{_≡_, refl, sym, _∙_, ap}
-use Prim.Native.Nat.{ℕ}
+use Prim.Native.Nat.{ℕ, _≤_}
 use native.Mathlib.Omega.{arith}
 use lib.Dec.{eqb}
+use lib.ListN.{length}
 use Rattle.slot.specs.If.{if_then_else_}
 use Rattle.store.specs.Lists.{first}
-use Rattle.store.specs.Model.{Model}
+use Rattle.store.specs.Model.{Model, shapeAt}
 use Rattle.store.specs.Layout.{parse}
-use Rattle.store.specs.Image.{Formed, Becomes, and-then}
+use Rattle.store.specs.Image.{Formed, Place, Becomes, unchanged}
 use Rattle.store.specs.declared.Edge.{Edge}
 use Rattle.rules.specs.declared.Placement.the-variants.{At}
 use Rattle.rules.specs.Refusals.{Got, ok}
-use Rattle.rules.specs.Placing.{Passes, Places, places, placed}
-use Rattle.rules.specs.Steps.{Step, edgeKind, edgeOf, alike, Placed, pruned, counted, grow, make, along, step}
+use Rattle.rules.specs.Placing.{Passes, Places, places, then-places}
+use Rattle.rules.specs.Steps.{Step, edgeKind, edgeOf, alike, counter, Placed, pruned, counted}
+use Rattle.rules.specs.Steps.{grow, make, along, step}
 use Rattle.theorems.specs.Facts.{Used, Sound}
 use Rattle.theorems.specs.Frame.{Keeps}
-use Rattle.theorems.specs.Child.{Legal}
+use Rattle.theorems.specs.Prunes.{counter-at-most, counted-keeps, pruned-keeps}
 use Rattle.theorems.specs.Makes.{legal-again}
+use Rattle.plan.specs.Plan.{edgeFor}
 use Rattle.forward_transition.specs.Transitions.{transitionOf}
 use Rattle.forward_transition.specs.declared.Transition.{Transition}
 use Rattle.forward_transition.specs.declared.Transition.the-variants.{Live, Dead, Absent}
+use Rattle.shared_step.specs.Growing.{Ready, shape-place}
 
--- What it takes to go on from a shape.
-pub record Able (ws : List ℕ) (n : ℕ) (t : Step) : Type 0 where
-  pub formed : Formed ws
-  pub sound : Sound (parse ws)
-  pub legal : Legal (parse ws) n t
+-- A change that keeps every shape leaves the step legal; g is what is left of the rule h.
+ready-again : {a b : List ℕ} {j : Model} {n : ℕ} {t : Step} {g h : Got Placed} → Ready a n t h
+    → Keeps (parse a) j (Used (parse a)) → Becomes a b j → g ≡ h → Ready b n t g
+ready-again {a} {j = j} {n = n} {t = t} (f, (sound, (legal, passes))) keeps became same = (
+  became .formed,
+  (rw (became .parsed) (keeps .isSound),
+    (rw (became .parsed) (legal-again (parse a) j keeps n t legal), rw same passes)),
+)
 
--- A change that keeps every shape leaves the step legal.
-pub able-again : {a b : List ℕ} {j : Model} {n : ℕ} {t : Step} → Legal (parse a) n t
-    → Keeps (parse a) j (Used (parse a)) → Becomes a b j → Able b n t
-able-again {a} {j = j} {n = n} {t = t} legal keeps became =
-    record {
-      formed = became .formed;
-      sound = rw (became .parsed) (keeps .isSound);
-      legal = rw (became .parsed) (legal-again (parse a) j keeps n t legal);
-    }
+-- ## The counter, and then the child
 
--- A change, and then a rule that gives what was to be given.
-pub go-on : {a b : List ℕ} (c : List ℕ) {m : Model} {g h : Got Placed} (r : ℕ) → g ≡ h → Passes h
-    → Becomes a b m → Places b c g (At r) → Places a c h (At r)
-go-on c r same (y, passed) first p =
-    let (became, its) = placed (same ∙ passed) p in
-    places passed (and-then first became) its
+module _ {a : List ℕ} {n : ℕ} {t : Step} (ready : Ready a n t (make (parse a) n t)) {e : Edge}
+    (its : e ≡ edgeOf n t 0) where
+  pub count-ready : Formed a
+      × (Place (length (parse a .shapes)) n × (counter (e .kind) (shapeAt (parse a) n .counters) ≤ 255))
+  count-ready =
+      let (f, (sound, (legal, passes))) = ready in
+      (f, (shape-place ready, counter-at-most (parse a) sound n (e .kind) (legal .isShared)))
 
--- The parent's counter was seen to, or its dead edges were pruned.
-module _ {a b : List ℕ} (n : ℕ) (t : Step) {kind : ℕ} (same : kind ≡ edgeKind t) where
-  pub after-count : Becomes a b (counted (parse a) n kind) → grow (parse b) n t ≡ make (parse a) n t
-  unfolding make
-  after-count up = rw (up .parsed, same)
+  module _ {b : List ℕ} (up : Becomes a b (counted (parse a) n (e .kind))) where
+    same-rule : grow (parse b) n t ≡ make (parse a) n t
+    unfolding make
+    same-rule = rw (up .parsed, its)
 
-  pub after-prune : Becomes a b (pruned (parse a) n kind)
-      → make (parse b) n t ≡ make (pruned (parse a) n (edgeKind t)) n t
-  after-prune less = rw (less .parsed, same)
+    pub grow-ready : Ready b n t (grow (parse b) n t)
+    grow-ready =
+        let (f, (sound, (legal, passes))) = ready in
+        ready-again ready (counted-keeps (parse a) sound n (e .kind) (legal .isShared)) up same-rule
 
--- The three ways on.
+    pub made : (c : List ℕ) (r : ℕ) → Places b c (grow (parse b) n t) (At r)
+        → Places a c (make (parse a) n t) (At r)
+    made c r = then-places c r same-rule (ready .1 .1 .1) up
+
+-- ## What the edges say
+
 module _ (m : Model) (n : ℕ) (t : Step) where
   along-live : (o : Option Edge) {c : ℕ} → transitionOf o ≡ Live c → along o m n t ≡ ok (m, c)
   along-live none e = let z : _≡_ {A = ℕ} 0 1 = cc in absurd (omega arith)
@@ -90,22 +95,38 @@ module _ (m : Model) (n : ℕ) (t : Step) where
       go false e = let z : _≡_ {A = ℕ} 0 1 = cc in absurd (omega arith)
 
 -- The edges were asked for the step's.
-module _ (m : Model) (n : ℕ) (t : Step) {wanted : Edge} (its : wanted ≡ edgeOf n t 0) {found : Transition}
-    (seen : found ≡ transitionOf (first (alike wanted) (m .edges))) where
-  abbrev o : Option Edge
-  o = first (alike (edgeOf n t 0)) (m .edges)
+module _ {a : List ℕ} {n : ℕ} {t : Step} (ready : Ready a n t (step (parse a) n t)) {e : Edge}
+    (its : e ≡ edgeOf n t 0) {found : Transition}
+    (seen : found ≡ transitionOf (first (alike e) (parse a .edges))) where
+  asked : {x : Transition} → found ≡ x → transitionOf (edgeFor (parse a) n t) ≡ x
+  asked is = sym (rw its at seen) ∙ is
 
-  asked : transitionOf o ≡ found
-  asked = sym (rw its at seen)
-
-  pub step-live : {c : ℕ} → found ≡ Live c → step m n t ≡ ok (m, c)
+  pub live-taken : {c : ℕ} → found ≡ Live c → Places a a (step (parse a) n t) (At c)
   unfolding step
-  step-live e = along-live m n t o (asked ∙ e)
+  live-taken is = places (along-live (parse a) n t (edgeFor (parse a) n t) (asked is)) (unchanged (ready .0)) refl
 
-  pub step-dead : found ≡ Dead → step m n t ≡ make (pruned m n (edgeKind t)) n t
-  unfolding step
-  step-dead e = along-dead m n t o (asked ∙ e)
+  module _ (is : found ≡ Absent) where
+    absent : step (parse a) n t ≡ make (parse a) n t
+    unfolding step
+    absent = along-absent (parse a) n t (edgeFor (parse a) n t) (asked is)
 
-  pub step-absent : found ≡ Absent → step m n t ≡ make m n t
-  unfolding step
-  step-absent e = along-absent m n t o (asked ∙ e)
+    pub absent-ready : Ready a n t (make (parse a) n t)
+    absent-ready = rw absent at ready
+
+    pub absent-taken : (c : List ℕ) (r : ℕ) → Places a c (make (parse a) n t) (At r)
+        → Places a c (step (parse a) n t) (At r)
+    absent-taken c r made = rw absent made
+
+  module _ (is : found ≡ Dead) {b : List ℕ} (less : Becomes a b (pruned (parse a) n (e .kind))) where
+    dead-rule : make (parse b) n t ≡ step (parse a) n t
+    unfolding step
+    dead-rule = rw (less .parsed, its) (sym (along-dead (parse a) n t (edgeFor (parse a) n t) (asked is)))
+
+    pub dead-ready : Ready b n t (make (parse b) n t)
+    dead-ready =
+        let (f, (sound, (legal, passes))) = ready in
+        ready-again ready (pruned-keeps (parse a) sound n (e .kind) (legal .isShared)) less dead-rule
+
+    pub dead-taken : (c : List ℕ) (r : ℕ) → Places b c (make (parse b) n t) (At r)
+        → Places a c (step (parse a) n t) (At r)
+    dead-taken c r = then-places c r dead-rule (ready .1 .1 .1) less

@@ -1,17 +1,16 @@
 -- Several steps, taken one after the other.
 -- Assumes nothing.
-use mathlib.Core.List.{List, [], _∷_}
-use mathlib.Core.Path.{_≡_, refl, sym, _∙_, ap}
+use mathlib.Core.List.{List, _∷_}
+use mathlib.Core.Path.{_≡_, refl, sym, _∙_}
 use Prim.Native.Nat.{ℕ, suc, _+_, _≤_, _<_}
 use native.Mathlib.Numerals.{add-one}
-use native.Mathlib.Omega.{arith}
 use lib.ListN.{length, drop, getD, length-map, drop-of-length-le}
 use Rattle.store.specs.Layout.{parse}
 use Rattle.store.specs.Image.{Formed, Becomes, unchanged, and-then}
 use Rattle.rules.specs.declared.Placement.the-variants.{At}
 use Rattle.rules.specs.declared.StepRecord.{StepRecord}
 use Rattle.rules.specs.Placing.{stepIn, Passes, Places, places, placed}
-use Rattle.rules.specs.Steps.{Step, Placed, step, steps}
+use Rattle.rules.specs.Steps.{step, steps}
 use Rattle.theorems.specs.Facts.{Sound}
 use Rattle.theorems.specs.Taken.{bind-passed}
 use Rattle.theorems.specs.Child.{Legal}
@@ -44,31 +43,34 @@ module _ {before : List ℕ} {n : ℕ} {ws : List ℕ} {start : ℕ} where
       this-and-more : drop i (stepsIn ws) ≡ stepIn t ∷ drop (suc i) (stepsIn ws)
       this-and-more = rw read (steps-from ws i more)
 
-      next-legal : LegalSteps (stepIn t ∷ drop (suc i) (stepsIn ws)) (parse now) p
-      next-legal = rw this-and-more at (w .legal)
+      all-legal : LegalSteps (stepIn t ∷ drop (suc i) (stepsIn ws)) (parse now) p
+      all-legal = rw this-and-more at (w .legal)
 
-      pub step-legal : Legal (parse now) p (stepIn t)
-      step-legal = next-legal .0
-
-      pub step-passes : Passes (step (parse now) p (stepIn t))
+      this-passes : Passes (step (parse now) p (stepIn t))
       unfolding steps
-      step-passes =
+      this-passes =
           let (y, passed) = passes in
           let b = bind-passed (step (parse now) p (stepIn t)) _ y (rw this-and-more at (w .rest) ∙ passed) in
           (b .result, b .gave)
 
+      -- The next step may be taken,
+      pub walk-ready : Formed now
+          × (Sound (parse now) × (Legal (parse now) p (stepIn t) × Passes (step (parse now) p (stepIn t))))
+      walk-ready = (w .so-far .formed, (w .sound, (all-legal .0, this-passes)))
+
+      -- and then there is one less.
       pub walk-on : {new : List ℕ} {q : ℕ} → Places now new (step (parse now) p (stepIn t)) (At q)
           → Walking before n ws start (i + 1) new q
       unfolding steps
       walk-on taken =
-          let (y, gave) = step-passes in
+          let (y, gave) = this-passes in
           let (became, its) = placed gave taken in
-          let took = step-took (parse now) (w .sound) p (stepIn t) step-legal y gave in
+          let took = step-took (parse now) (w .sound) p (stepIn t) (all-legal .0) y gave in
           let rest = rw (this-and-more, gave) at (w .rest) in
           rw (add-one i, its)
           record {
             so-far = rw (became .parsed) (and-then (w .so-far) became);
             sound = rw (became .parsed) (took .keeps .isSound);
-            legal = rw (became .parsed) (next-legal .1 y gave);
+            legal = rw (became .parsed) (all-legal .1 y gave);
             rest = rw (became .parsed) rest;
           }

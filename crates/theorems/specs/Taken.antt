@@ -35,6 +35,7 @@ place-passed r isFree d xs n e =
     let l = place-given isFree d r xs n .0 e in
     record { low = l .low; high = l .high; wasFree = l .passes }
 
+-- It is the lowest one.
 pub place-lowest : {A : Type 0} (r : Refusal) (isFree : A → Bool) (xs : List A) (n : ℕ)
     → place r isFree xs ≡ ok n → n ≡ lowest isFree 1 xs
 place-lowest r isFree xs n e =

@@ -1,7 +1,7 @@
 -- `shared_step::take_steps` meets its contract. Assumes nothing.
 use Prim.Native.Nat.{_-_}
 use native.Mathlib.Omega.{arith}
-use Rattle.shared_step.specs.Walking.{Walking, walk-start, walk-end, step-legal, step-passes, walk-on}
+use Rattle.shared_step.specs.Walking.{Walking, walk-start, walk-end, walk-ready, walk-on}
 use borrow.Author.Needs.{needs}
 use Rattle.shared_step.proofs.take_steps.Statement.{statement}
 use Rattle.shared_step.proofs.take_steps.Tie as tie
@@ -23,10 +23,7 @@ get-step-requires c κs = search needs
 
 take-step-requires : tie.Need-take-step-requires Inv-loop μ-loop
 take-step-requires c κs =
-    let w = c .before .before .before .loop .inv in
-    let passes = c .before .before .before .before .before .before .before .pre .1 .1 .1 in
-    let read = c .before .get-step .ensures in
-    (w .so-far .formed, (w .sound, (step-legal w passes (omega arith) read, step-passes w passes (omega arith) read)))
+    walk-ready (c .before .before .before .loop .inv) (c .before .before .before .before .before .before .before .pre .1 .1 .1) (omega arith) (c .before .get-step .ensures)
 
 add-i : tie.Need-add-i Inv-loop μ-loop
 add-i c = search needs
