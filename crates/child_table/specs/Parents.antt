@@ -7,7 +7,7 @@ use mathlib.Core.Path.{_≡_, refl, sym, _∙_, ap}
 use Prim.Native.Nat.{ℕ, _≤_, _<_}
 use native.Mathlib.Omega.{arith}
 use borrow.Author.Tests.{eq-eqb, ne-eqb, le-leb, not-true}
-use lib.ListN.{length, getD, take}
+use lib.ListN.{length}
 use lib.Seq.{take-all, getD-take, length-take-le}
 use Rattle.store.specs.Lists.{lowest}
 use Rattle.store.specs.Model.{Table, Model, free, used, noEntry, freeTable, tableAt, putTable}
@@ -22,8 +22,8 @@ use Rattle.rules.specs.declared.Refusal.the-variants.{TablesFull}
 use Rattle.rules.specs.Shapes.{has, appended, configured, laid, tableOf, entries}
 use Rattle.rules.specs.Refusals.{Got, ok, place}
 use Rattle.rules.specs.Placing.{Passes, Places}
-use Rattle.rules.specs.Steps.{Step, insert, configure, prototype, edgeAttributes, mayStep, added, Placed, copyTo}
-use Rattle.rules.specs.Steps.{childTable}
+use Rattle.rules.specs.Steps.{Step, insert, configure, prototype, edgeAttributes, mayStep, added, Placed}
+use Rattle.rules.specs.Steps.{copyTo, childTable}
 use Rattle.rules.specs.Sound.{distinct}
 use Rattle.theorems.specs.Facts.{GoodTable}
 use Rattle.theorems.specs.Entries.{keys, good-keys, attributes-take}
@@ -62,7 +62,8 @@ copy : {m : Model} {g : Got Placed} {es : List Entry} {to : ℕ} → g ≡ copyT
 unfolding tableAt
 copy {m} {g} {es} {to} rule (y, e) its =
     let b = bind-passed (place TablesFull freeTable (m .tables)) _ y (sym rule ∙ e) in
-    let same : b .result ≡ to = place-lowest TablesFull freeTable (m .tables) (b .result) (b .gave) ∙ sym its in
+    let low = place-lowest TablesFull freeTable (m .tables) (b .result) (b .gave) in
+    let same : b .result ≡ to = low ∙ sym its in
     let p = place-passed TablesFull freeTable free (m .tables) to (rw same at (b .gave)) in
     record {
       target = record { low = p .low; high = p .high };
@@ -127,7 +128,8 @@ module _ {m : Model} {s : Shape} {k a : ℕ} (p : Parent m s (configure k a)) wh
   is-held : has k (entries m s) ≡ true
   is-held = and-both (has k (entries m s)) (p .may) .0
 
-  pub configure-copies : {to : ℕ} → Passes (childTable m s (configure k a)) → to ≡ lowest freeTable 1 (m .tables)
+  pub configure-copies : {to : ℕ} → Passes (childTable m s (configure k a))
+      → to ≡ lowest freeTable 1 (m .tables)
       → Copies m (childTable m s (configure k a)) (configured (tableOf m s) k a) to
   unfolding childTable
   configure-copies = copy refl

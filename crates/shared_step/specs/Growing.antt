@@ -1,6 +1,6 @@
 -- A child that is made: the places it takes, and the words that code writes for it.
 -- Assumes nothing.
-use mathlib.Core.Bool.{Bool, false, _&&_}
+use mathlib.Core.Bool.{_&&_}
 use mathlib.Core.List.{List}
 use mathlib.Core.Logic.{_⊎_, inl, inr, _≢_}
 use mathlib.Core.Path.{_≡_, refl, sym, _∙_, ap, ap₂}
@@ -11,7 +11,8 @@ use lib.Dec.{eqb}
 use lib.ListN.{length}
 use Rattle.slot.specs.Attributes.{goodAttributes}
 use Rattle.store.specs.Lists.{lowest}
-use Rattle.store.specs.Model.{Model, noShape, noEdge, freeShape, freeEdge, shapeAt, tableAt, putShape, putEdge}
+use Rattle.store.specs.Model.{Model, noShape, noEdge, freeShape, freeEdge, shapeAt, tableAt, putShape}
+use Rattle.store.specs.Model.{putEdge}
 use Rattle.store.specs.Layout.{parse}
 use Rattle.store.specs.Image.{Formed, Place, Becomes, and-then}
 use Rattle.store.specs.PlaceLaws.{at-inside, same?}
@@ -22,15 +23,14 @@ use Rattle.rules.specs.declared.StepRecord.{StepRecord}
 use Rattle.rules.specs.declared.Placement.the-variants.{At}
 use Rattle.rules.specs.declared.Refusal.the-variants.{KeysFull, ShapesFull, EdgesFull}
 use Rattle.rules.specs.Numbers.{goodKey}
-use Rattle.rules.specs.Shapes.{tableOf, entries}
-use Rattle.rules.specs.Sound.{goodLabel}
+use Rattle.rules.specs.Shapes.{tableOf}
 use Rattle.rules.specs.Refusals.{Got, ok, place}
 use Rattle.rules.specs.Settled.{guard-passed}
 use Rattle.rules.specs.Placing.{stepIn, is-insert, is-configure, is-prototype}
 use Rattle.rules.specs.Placing.{Passes, Places, places, placed}
 use Rattle.rules.specs.Steps.{Step, insert, configure, prototype, edgeOf, edgeAttributes, added, Placed}
 use Rattle.rules.specs.Steps.{childTable, childShape, grow}
-use Rattle.theorems.specs.Facts.{Used, Sound, shared-used, used-table}
+use Rattle.theorems.specs.Facts.{Sound, shared-used, used-table}
 use Rattle.theorems.specs.Taken.{bind-passed, place-passed, place-lowest}
 use Rattle.theorems.specs.Child.{Legal}
 use Rattle.child_table.specs.Parents.{Parent}
@@ -74,8 +74,11 @@ record Grows (m : Model) (n : ℕ) (t : Step) (c : ℕ) : Type 0 where
   table : childTable m (shapeAt m n) t ≡ ok tabled
   edge : 1 ≤ lowest freeEdge 1 (tabled .0 .edges)
   gave : grow m n t
-      ≡ ok (putEdge (putShape (tabled .0) c (childShape n (shapeAt m n) t (tabled .1)))
-      (lowest freeEdge 1 (tabled .0 .edges)) (edgeOf n t c), c)
+      ≡ ok (
+        putEdge (putShape (tabled .0) c (childShape n (shapeAt m n) t (tabled .1)))
+            (lowest freeEdge 1 (tabled .0 .edges)) (edgeOf n t c),
+        c,
+      )
 
 grows : (m : Model) (n : ℕ) (t : Step) {c : ℕ} → Passes (grow m n t) → c ≡ lowest freeShape 1 (m .shapes)
     → Grows m n t c
@@ -88,13 +91,15 @@ grows m n t {c} (y, e) its =
     let b = bind-passed (childTable m s t) _ y (a .below) in
     let edges = b .result .0 .edges in
     let d = bind-passed (place EdgesFull freeEdge edges) _ y (b .below) in
-    let same : a .result ≡ c = place-lowest ShapesFull freeShape (m .shapes) (a .result) (a .gave) ∙ sym its in
+    let low = place-lowest ShapesFull freeShape (m .shapes) (a .result) (a .gave) in
+    let same : a .result ≡ c = low ∙ sym its in
     let p = place-passed ShapesFull freeShape noShape (m .shapes) (a .result) (a .gave) in
     let free = place-lowest EdgesFull freeEdge edges (d .result) (d .gave) in
     let q = place-passed EdgesFull freeEdge noEdge edges (d .result) (d .gave) in
     rw (← same)
     record {
-      room = λ one full. not-both (both-and (eq-eqb (added t) 1 one) (eq-eqb (s .properties) (m .K) full)) few;
+      room = λ one full.
+          not-both (both-and (eq-eqb (added t) 1 one) (eq-eqb (s .properties) (m .K) full)) few;
       target = record { low = p .low; high = p .high };
       tabled = b .result;
       table = b .gave;

@@ -3,7 +3,7 @@
 use mathlib.Core.Bool.{Bool, true, false}
 use mathlib.Core.List.{List}
 use mathlib.Core.Option.{Option, none, some}
-use mathlib.Core.Path.{_≡_, refl, sym, _∙_, ap}
+use mathlib.Core.Path.{_≡_, refl, sym, _∙_}
 use Prim.Native.Nat.{ℕ, _≤_}
 use native.Mathlib.Omega.{arith}
 use lib.Dec.{eqb}
@@ -16,10 +16,10 @@ use Rattle.store.specs.Image.{Formed, Place, Becomes, unchanged}
 use Rattle.store.specs.declared.Edge.{Edge}
 use Rattle.rules.specs.declared.Placement.the-variants.{At}
 use Rattle.rules.specs.Refusals.{Got, ok}
-use Rattle.rules.specs.Placing.{Passes, Places, places, then-places}
+use Rattle.rules.specs.Placing.{Places, places, then-places}
 use Rattle.rules.specs.Steps.{Step, edgeKind, edgeOf, alike, counter, Placed, pruned, counted}
 use Rattle.rules.specs.Steps.{grow, make, along, step}
-use Rattle.theorems.specs.Facts.{Used, Sound}
+use Rattle.theorems.specs.Facts.{Used}
 use Rattle.theorems.specs.Frame.{Keeps}
 use Rattle.theorems.specs.Prunes.{counter-at-most, counted-keeps, pruned-keeps}
 use Rattle.theorems.specs.Makes.{legal-again}
@@ -34,8 +34,10 @@ ready-again : {a b : List ℕ} {j : Model} {n : ℕ} {t : Step} {g h : Got Place
     → Keeps (parse a) j (Used (parse a)) → Becomes a b j → g ≡ h → Ready b n t g
 ready-again {a} {j = j} {n = n} {t = t} (f, (sound, (legal, passes))) keeps became same = (
   became .formed,
-  (rw (became .parsed) (keeps .isSound),
-    (rw (became .parsed) (legal-again (parse a) j keeps n t legal), rw same passes)),
+  (
+    rw (became .parsed) (keeps .isSound),
+    (rw (became .parsed) (legal-again (parse a) j keeps n t legal), rw same passes),
+  ),
 )
 
 -- ## The counter, and then the child
@@ -103,7 +105,8 @@ module _ {a : List ℕ} {n : ℕ} {t : Step} (ready : Ready a n t (step (parse a
 
   pub live-taken : {c : ℕ} → found ≡ Live c → Places a a (step (parse a) n t) (At c)
   unfolding step
-  live-taken is = places (along-live (parse a) n t (edgeFor (parse a) n t) (asked is)) (unchanged (ready .0)) refl
+  live-taken is =
+      places (along-live (parse a) n t (edgeFor (parse a) n t) (asked is)) (unchanged (ready .0)) refl
 
   module _ (is : found ≡ Absent) where
     absent : step (parse a) n t ≡ make (parse a) n t

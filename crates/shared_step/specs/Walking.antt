@@ -38,8 +38,8 @@ module _ {before : List ℕ} {n : ℕ} {ws : List ℕ} {start : ℕ} where
         let none = drop-of-length-le (stepsIn ws) {i = i} (rw length-map past) in
         places (sym (rw none at (w .rest))) (w .so-far) refl
 
-    module _ (passes : Passes (steps (drop start (stepsIn ws)) (parse before) n)) (more : i < length (records ws))
-        {t : StepRecord} (read : t ≡ getD (records ws) i noStep) where
+    module _ (passes : Passes (steps (drop start (stepsIn ws)) (parse before) n))
+        (more : i < length (records ws)) {t : StepRecord} (read : t ≡ getD (records ws) i noStep) where
       this-and-more : drop i (stepsIn ws) ≡ stepIn t ∷ drop (suc i) (stepsIn ws)
       this-and-more = rw read (steps-from ws i more)
 

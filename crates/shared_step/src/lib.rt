@@ -16,11 +16,11 @@ use store::image::get_shape;
 use store::image::lowest_free_shape;
 use store::image::put_shape;
 ghost use mathlib.Core.Path.{_≡_};
-ghost use Prim.Native.Nat.{_≤_, _<_};
+ghost use Prim.Native.Nat.{_≤_};
+ghost use lib.ListN.{drop};
 ghost use Rattle.store.specs.Layout.{parse};
 ghost use Rattle.store.specs.Image.{Formed};
 ghost use Rattle.rules.specs.declared.Placement.the-variants.{At};
-ghost use lib.ListN.{drop};
 ghost use Rattle.rules.specs.Steps.{edgeOf, childShape, grow, make, step, steps};
 ghost use Rattle.rules.specs.Placing.{stepIn, Places, Passes};
 ghost use Rattle.theorems.specs.Facts.{Sound};
@@ -40,6 +40,7 @@ const PROTOTYPE_EDGE: u32 = 1;
 
 const SHARED: u32 = 1;
 
+// Insert and configure of a key are told apart by the shape that they start from, not by the edge.
 fn edge_of(parent: u32, t: StepRecord, child: u32) -> Edge
     ensures { λ r. ⌜ r ≡ edgeOf parent (stepIn t) child ⌝ }
 {
@@ -99,7 +100,8 @@ fn grow(image: &mut [u32], n: u32, t: StepRecord) -> u32
     requires { ⌜ Legal (parse (now image)) n (stepIn t) ⌝ }
     requires { ⌜ Passes (grow (parse (now image)) n (stepIn t)) ⌝ }
     ensures { λ r. ⌜
-        Places (now (image .entry)) (now (image .exit)) (grow (parse (now (image .entry))) n (stepIn t)) (At r)
+        Places (now (image .entry)) (now (image .exit))
+        (grow (parse (now (image .entry))) n (stepIn t)) (At r)
         ⌝ }
 {
     let s = get_shape(image, n);
@@ -110,13 +112,15 @@ fn grow(image: &mut [u32], n: u32, t: StepRecord) -> u32
     child
 }
 
+// The counter is seen to first: nothing of the child reads it, and a prune leaves room for its edge.
 fn make(image: &mut [u32], n: u32, t: StepRecord) -> u32
     requires { ⌜ Formed (now image) ⌝ }
     requires { ⌜ Sound (parse (now image)) ⌝ }
     requires { ⌜ Legal (parse (now image)) n (stepIn t) ⌝ }
     requires { ⌜ Passes (make (parse (now image)) n (stepIn t)) ⌝ }
     ensures { λ r. ⌜
-        Places (now (image .entry)) (now (image .exit)) (make (parse (now (image .entry))) n (stepIn t)) (At r)
+        Places (now (image .entry)) (now (image .exit))
+        (make (parse (now (image .entry))) n (stepIn t)) (At r)
         ⌝ }
 {
     let edge = edge_of(n, t, 0);
@@ -130,7 +134,8 @@ pub fn take_step(image: &mut [u32], n: u32, t: StepRecord) -> u32
     requires { ⌜ Legal (parse (now image)) n (stepIn t) ⌝ }
     requires { ⌜ Passes (step (parse (now image)) n (stepIn t)) ⌝ }
     ensures { λ r. ⌜
-        Places (now (image .entry)) (now (image .exit)) (step (parse (now (image .entry))) n (stepIn t)) (At r)
+        Places (now (image .entry)) (now (image .exit))
+        (step (parse (now (image .entry))) n (stepIn t)) (At r)
         ⌝ }
 {
     let wanted = edge_of(n, t, 0);

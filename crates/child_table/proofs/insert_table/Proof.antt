@@ -1,6 +1,5 @@
 -- `child_table::insert_table` meets its contract. Assumes nothing.
-use mathlib.Core.Path.{refl, sym, _∙_}
-use native.Mathlib.Omega.{arith}
+use mathlib.Core.Path.{refl, _∙_}
 use Rattle.rules.specs.Placing.{places}
 use Rattle.property_table.specs.Copies.{appended-after}
 use Rattle.property_table.specs.OneKey.{key-ready}
@@ -18,44 +17,81 @@ cast-t14 c = search needs
 
 append-requires : tie.Need-append-requires
 append-requires c κs =
-    let parent = c .before .before .before .before .before .before .pre .1 .0 in
-    let whole = c .before .if1 .taken ∙ c .before .before .before .entry-count .ensures in
-    (c .before .before .before .before .before .before .pre .0, (its-place parent, (parent .inUse, (has-room parent whole, its-slots parent))))
+    let at-if1 = c .before in
+    let at-entry-count = at-if1 .before .before in
+    let pre = at-entry-count .before .before .before .pre in
+    let parent = pre .1 .0 in
+    let whole = at-if1 .if1 .taken ∙ at-entry-count .entry-count .ensures in
+    (pre .0, (its-place parent, (parent .inUse, (has-room parent whole, its-slots parent))))
 
 same-length : tie.Need-same-length
 same-length c = c .before .before .append .ensures .long
 
 returns : tie.Need-returns
 returns c =
-    places (appends (c .before .before .before .before .before .before .before .before .before .pre .1 .0) (c .before .before .before .before .if1 .taken ∙ c .before .before .before .before .before .before .entry-count .ensures)) (c .before .before .append .ensures) refl
+    let at-append = c .before .before in
+    let at-if1 = at-append .before .before in
+    let at-entry-count = at-if1 .before .before in
+    let pre = at-entry-count .before .before .before .pre in
+    places (appends (pre .1 .0) (at-if1 .if1 .taken ∙ at-entry-count .entry-count .ensures))
+    (at-append .append .ensures) refl
 
 lowest-free-table-requires : tie.Need-lowest-free-table-requires
 lowest-free-table-requires c κs = search needs
 
 copy-entries-requires : tie.Need-copy-entries-requires
 copy-entries-requires c κs =
-    let parent = c .before .before .before .before .before .before .before .before .pre .1 .0 in
-    let copy = insert-copies parent (c .before .before .before .before .before .entry-count .ensures) (c .before .before .before .if1 .left) (c .before .before .before .before .before .before .before .before .pre .1 .1) (c .before .lowest-free-table .ensures) in
-    (c .before .before .before .before .before .before .before .before .pre .0, (apart parent copy, (copy .isFree, parent .fits)))
+    let at-lowest-free-table = c .before in
+    let at-if1 = at-lowest-free-table .before .before in
+    let at-entry-count = at-if1 .before .before in
+    let pre = at-entry-count .before .before .before .pre in
+    let parent = pre .1 .0 in
+    let count = at-entry-count .entry-count .ensures in
+    let other = at-if1 .if1 .left in
+    let lowest = at-lowest-free-table .lowest-free-table .ensures in
+    let copy = insert-copies parent count other (pre .1 .1) lowest in
+    (pre .0, (apart parent copy, (copy .isFree, parent .fits)))
 
 cast-t23 : tie.Need-cast-t23
 cast-t23 c = search needs
 
 append-requires-2 : tie.Need-append-requires-2
 append-requires-2 c κs =
-    let parent = c .before .before .before .before .before .before .before .before .before .before .before .before .pre .1 .0 in
-    let copy = insert-copies parent (c .before .before .before .before .before .before .before .before .before .entry-count .ensures) (c .before .before .before .before .before .before .before .if1 .left) (c .before .before .before .before .before .before .before .before .before .before .before .before .pre .1 .1) (c .before .before .before .before .before .lowest-free-table .ensures) in
-    let first = c .before .before .before .copy-entries .ensures in
-    (first .formed, key-ready (c .before .before .before .before .before .before .before .before .before .before .before .before .pre .0) (apart parent copy) (c .before .before .before .before .before .before .before .before .before .entry-count .ensures) (has-fewer parent (c .before .before .before .before .before .before .before .before .before .entry-count .ensures) (c .before .before .before .before .before .before .before .if1 .left)) first)
+    let at-copy-entries = c .before .before .before in
+    let at-lowest-free-table = at-copy-entries .before .before in
+    let at-if1 = at-lowest-free-table .before .before in
+    let at-entry-count = at-if1 .before .before in
+    let pre = at-entry-count .before .before .before .pre in
+    let parent = pre .1 .0 in
+    let count = at-entry-count .entry-count .ensures in
+    let other = at-if1 .if1 .left in
+    let lowest = at-lowest-free-table .lowest-free-table .ensures in
+    let copy = insert-copies parent count other (pre .1 .1) lowest in
+    let first = at-copy-entries .copy-entries .ensures in
+    (first .formed, key-ready (pre .0) (apart parent copy) count (has-fewer parent count other) first)
 
 same-length-2 : tie.Need-same-length-2
-same-length-2 c = c .before .before .append2 .ensures .long ∙ c .before .before .before .before .before .before .copy-entries .ensures .long
+same-length-2 c =
+    let at-append2 = c .before .before in
+    let at-copy-entries = at-append2 .before .before .before .before in
+    at-append2 .append2 .ensures .long ∙ at-copy-entries .copy-entries .ensures .long
 
 returns-2 : tie.Need-returns-2
 returns-2 c =
-    let parent = c .before .before .before .before .before .before .before .before .before .before .before .before .before .before .before .pre .1 .0 in
-    let copy = insert-copies parent (c .before .before .before .before .before .before .before .before .before .before .before .before .entry-count .ensures) (c .before .before .before .before .before .before .before .before .before .before .if1 .left) (c .before .before .before .before .before .before .before .before .before .before .before .before .before .before .before .pre .1 .1) (c .before .before .before .before .before .before .before .before .lowest-free-table .ensures) in
-    places (copy .gave) (appended-after (apart parent copy) _ (c .before .before .before .before .before .before .copy-entries .ensures) _ _ (c .before .before .append2 .ensures)) refl
+    let at-append2 = c .before .before in
+    let at-copy-entries = at-append2 .before .before .before .before in
+    let at-lowest-free-table = at-copy-entries .before .before in
+    let at-if1 = at-lowest-free-table .before .before in
+    let at-entry-count = at-if1 .before .before in
+    let pre = at-entry-count .before .before .before .pre in
+    let parent = pre .1 .0 in
+    let count = at-entry-count .entry-count .ensures in
+    let other = at-if1 .if1 .left in
+    let lowest = at-lowest-free-table .lowest-free-table .ensures in
+    let copy = insert-copies parent count other (pre .1 .1) lowest in
+    let first = at-copy-entries .copy-entries .ensures in
+    let more = at-append2 .append2 .ensures in
+    places (copy .gave) (appended-after (apart parent copy) _ first _ _ more) refl
 
 pub insert-table-spec : {M : Type 1} → statement M
 insert-table-spec =

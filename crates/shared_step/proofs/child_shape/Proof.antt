@@ -12,13 +12,21 @@ add-child : tie.Need-add-child
 add-child c = search needs
 
 returns : tie.Need-returns
-returns c = rw (is-insert (c .before .before .before .before .args .t) (c .before .if1 .taken), c .before .if1 .taken)
+returns c =
+    let at-if1 = c .before in
+    let args = at-if1 .before .before .before .args in
+    rw (is-insert (args .t) (at-if1 .if1 .taken), at-if1 .if1 .taken)
 
 returns-2 : tie.Need-returns-2
-returns-2 c = rw (is-configure (c .before .before .before .before .before .args .t) (c .if2 .taken), c .if2 .taken, add-zero)
+returns-2 c =
+    let args = c .before .before .before .before .before .args in
+    rw (is-configure (args .t) (c .if2 .taken), c .if2 .taken, add-zero)
 
 returns-3 : tie.Need-returns-3
-returns-3 c = rw (is-prototype (c .before .before .before .before .before .args .t) (c .before .before .if1 .left) (c .if2 .left), add-zero)
+returns-3 c =
+    let at-if1 = c .before .before in
+    let args = at-if1 .before .before .before .args in
+    rw (is-prototype (args .t) (at-if1 .if1 .left) (c .if2 .left), add-zero)
 
 pub child-shape-spec : {M : Type 1} → statement M
 child-shape-spec = tie.close (tie.spec add-t6 add-child returns returns-2 returns-3)

@@ -1,6 +1,5 @@
 -- `shared_step::edge_of` meets its contract. Assumes nothing.
 use Rattle.shared_step.specs.Growing.{property-edge, prototype-edge}
-use borrow.Author.Needs.{needs}
 use Rattle.shared_step.proofs.edge_of.Statement.{statement}
 use Rattle.shared_step.proofs.edge_of.Tie as tie
 

@@ -12,13 +12,24 @@ count-up-requires : tie.Need-count-up-requires
 count-up-requires c κs = count-ready (c .before .before .before .pre) (c .before .edge-of .ensures)
 
 grow-requires : tie.Need-grow-requires
-grow-requires c κs = grow-ready (c .before .before .before .before .before .before .before .pre) (c .before .before .before .before .before .edge-of .ensures) (c .before .before .before .count-up .ensures)
+grow-requires c κs =
+    let at-count-up = c .before .before .before in
+    let at-edge-of = at-count-up .before .before in
+    let pre = at-edge-of .before .before .pre in
+    grow-ready pre (at-edge-of .edge-of .ensures) (at-count-up .count-up .ensures)
 
 returns : tie.Need-returns
-returns c = made (c .before .before .before .before .before .before .before .before .before .before .pre) (c .before .before .before .before .before .before .before .before .edge-of .ensures) (c .before .before .before .before .before .before .count-up .ensures) _ _ (c .before .before .grow .ensures)
+returns c =
+    let at-grow = c .before .before in
+    let at-count-up = at-grow .before .before .before .before in
+    let at-edge-of = at-count-up .before .before in
+    let pre = at-edge-of .before .before .pre in
+    made pre (at-edge-of .edge-of .ensures) (at-count-up .count-up .ensures) _ _ (at-grow .grow .ensures)
 
 same-length : tie.Need-same-length
-same-length c = placed (c .before .before .before .before .before .before .before .before .before .before .pre .1 .1 .1 .1) (returns c) .0 .long
+same-length c =
+    let pre = c .before .before .before .before .before .before .before .before .before .before .pre in
+    placed (pre .1 .1 .1 .1) (returns c) .0 .long
 
 pub make-spec : {M : Type 1} → statement M
 make-spec =

@@ -19,37 +19,75 @@ enum-told : tie.Need-enum-told
 enum-told c = search needs
 
 prune-transitions-requires : tie.Need-prune-transitions-requires
-prune-transitions-requires c κs = (c .before .before .before .before .before .before .before .pre .0, shape-place (c .before .before .before .before .before .before .before .pre))
+prune-transitions-requires c κs =
+    let pre = c .before .before .before .before .before .before .before .pre in
+    (pre .0, shape-place pre)
 
 make-requires : tie.Need-make-requires
 make-requires c κs =
-    dead-ready (c .before .before .before .before .before .before .before .before .before .before .before .pre) (c .before .before .before .before .before .before .before .before .before .edge-of .ensures) (c .before .before .before .before .before .before .before .get .ensures) (c .before .before .before .before .before .enum-told .given .1) (c .before .before .before .prune-transitions .ensures)
+    let at-prune-transitions = c .before .before .before in
+    let at-enum-told = at-prune-transitions .before .before in
+    let at-get = at-enum-told .before .before in
+    let at-edge-of = at-get .before .before in
+    let pre = at-edge-of .before .before .pre in
+    dead-ready pre (at-edge-of .edge-of .ensures) (at-get .get .ensures)
+    (at-enum-told .enum-told .given .1) (at-prune-transitions .prune-transitions .ensures)
 
 enum-told-2 : tie.Need-enum-told-2
 enum-told-2 c = search needs
 
 make-requires-2 : tie.Need-make-requires-2
-make-requires-2 c κs = absent-ready (c .before .before .before .before .before .before .before .pre) (c .before .before .before .before .before .edge-of .ensures) (c .before .before .before .get .ensures) (c .before .enum-told2 .given .1)
+make-requires-2 c κs =
+    let at-enum-told2 = c .before in
+    let at-get = at-enum-told2 .before .before in
+    let at-edge-of = at-get .before .before in
+    let pre = at-edge-of .before .before .pre in
+    absent-ready pre (at-edge-of .edge-of .ensures) (at-get .get .ensures)
+    (at-enum-told2 .enum-told2 .given .1)
 
 same-length : tie.Need-same-length
 same-length c = search needs
 
 returns : tie.Need-returns
-returns c = live-taken (c .before .before .before .before .before .before .before .pre) (c .before .before .before .before .before .edge-of .ensures) (c .before .before .before .get .ensures) (c .before .found .given .1)
+returns c =
+    let at-found = c .before in
+    let at-get = at-found .before .before in
+    let at-edge-of = at-get .before .before in
+    let pre = at-edge-of .before .before .pre in
+    live-taken pre (at-edge-of .edge-of .ensures) (at-get .get .ensures) (at-found .found .given .1)
 
 returns-2 : tie.Need-returns-2
 returns-2 c =
-    dead-taken (c .before .before .before .before .before .before .before .before .before .before .before .before .before .before .pre) (c .before .before .before .before .before .before .before .before .before .before .before .before .edge-of .ensures) (c .before .before .before .before .before .before .before .before .before .before .get .ensures) (c .before .before .before .before .before .before .before .before .enum-told .given .1) (c .before .before .before .before .before .before .prune-transitions .ensures) _ _ (c .before .before .make .ensures)
+    let at-make = c .before .before in
+    let at-prune-transitions = at-make .before .before .before .before in
+    let at-enum-told = at-prune-transitions .before .before in
+    let at-get = at-enum-told .before .before in
+    let at-edge-of = at-get .before .before in
+    let pre = at-edge-of .before .before .pre in
+    dead-taken pre (at-edge-of .edge-of .ensures) (at-get .get .ensures)
+    (at-enum-told .enum-told .given .1) (at-prune-transitions .prune-transitions .ensures) _ _
+    (at-make .make .ensures)
 
 same-length-2 : tie.Need-same-length-2
-same-length-2 c = placed (c .before .before .before .before .before .before .before .before .before .before .before .before .before .before .pre .1 .1 .1 .1) (returns-2 c) .0 .long
+same-length-2 c =
+    let at-enum-told = c .before .before .before .before .before .before .before .before in
+    let pre = at-enum-told .before .before .before .before .before .before .pre in
+    placed (pre .1 .1 .1 .1) (returns-2 c) .0 .long
 
 returns-3 : tie.Need-returns-3
 returns-3 c =
-    absent-taken (c .before .before .before .before .before .before .before .before .before .before .pre) (c .before .before .before .before .before .before .before .before .edge-of .ensures) (c .before .before .before .before .before .before .get .ensures) (c .before .before .before .before .enum-told2 .given .1) _ _ (c .before .before .make2 .ensures)
+    let at-make2 = c .before .before in
+    let at-enum-told2 = at-make2 .before .before in
+    let at-get = at-enum-told2 .before .before in
+    let at-edge-of = at-get .before .before in
+    let pre = at-edge-of .before .before .pre in
+    absent-taken pre (at-edge-of .edge-of .ensures) (at-get .get .ensures)
+    (at-enum-told2 .enum-told2 .given .1) _ _ (at-make2 .make2 .ensures)
 
 same-length-3 : tie.Need-same-length-3
-same-length-3 c = placed (c .before .before .before .before .before .before .before .before .before .before .pre .1 .1 .1 .1) (returns-3 c) .0 .long
+same-length-3 c =
+    let pre = c .before .before .before .before .before .before .before .before .before .before .pre in
+    placed (pre .1 .1 .1 .1) (returns-3 c) .0 .long
 
 pub take-step-spec : {M : Type 1} → statement M
 take-step-spec =

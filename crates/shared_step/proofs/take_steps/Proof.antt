@@ -16,14 +16,19 @@ step-count-requires : tie.Need-step-count-requires Inv-loop μ-loop
 step-count-requires c κs = search needs
 
 loop-holds : tie.Need-loop-holds Inv-loop μ-loop
-loop-holds c = walk-start (c .before .before .before .pre .0) (c .before .before .before .pre .1 .0) (c .before .before .before .pre .1 .1 .0)
+loop-holds c =
+    let pre = c .before .before .before .pre in
+    walk-start (pre .0) (pre .1 .0) (pre .1 .1 .0)
 
 get-step-requires : tie.Need-get-step-requires Inv-loop μ-loop
 get-step-requires c κs = search needs
 
 take-step-requires : tie.Need-take-step-requires Inv-loop μ-loop
 take-step-requires c κs =
-    walk-ready (c .before .before .before .loop .inv) (c .before .before .before .before .before .before .before .pre .1 .1 .1) (omega arith) (c .before .get-step .ensures)
+    let at-get-step = c .before in
+    let at-loop = at-get-step .before .before in
+    let pre = at-loop .before .before .before .before .pre in
+    walk-ready (at-loop .loop .inv) (pre .1 .1 .1) (omega arith) (at-get-step .get-step .ensures)
 
 add-i : tie.Need-add-i Inv-loop μ-loop
 add-i c = search needs
@@ -33,7 +38,12 @@ loop-less c = search needs
 
 loop-again : tie.Need-loop-again Inv-loop μ-loop
 loop-again c =
-    walk-on (c .before .before .before .before .before .before .loop .inv) (c .before .before .before .before .before .before .before .before .before .before .pre .1 .1 .1) (omega arith) (c .before .before .before .before .get-step .ensures) (c .before .before .take-step .ensures)
+    let at-take-step = c .before .before in
+    let at-get-step = at-take-step .before .before in
+    let at-loop = at-get-step .before .before in
+    let pre = at-loop .before .before .before .before .pre in
+    walk-on (at-loop .loop .inv) (pre .1 .1 .1) (omega arith) (at-get-step .get-step .ensures)
+    (at-take-step .take-step .ensures)
 
 same-length : tie.Need-same-length Inv-loop μ-loop
 same-length c = c .before .loop .inv .so-far .long
