@@ -1,12 +1,14 @@
 -- What code says of a rule: the words afterwards and the answer, for a result and for a refusal.
 -- Assumes nothing.
 use mathlib.Core.List.{List}
-use mathlib.Core.Path.{_≡_}
+use mathlib.Core.Logic.{_≢_}
+use mathlib.Core.Path.{_≡_, _∙_, ap}
 use Prim.Native.Nat.{ℕ}
+use borrow.Author.Tests.{ne-eqb}
 use lib.Dec.{eqb}
 use Rattle.slot.specs.If.{if_then_else_}
 use Rattle.store.specs.Model.{Model}
-use Rattle.store.specs.Image.{Becomes}
+use Rattle.store.specs.Image.{Becomes, and-then}
 use Rattle.rules.specs.declared.StepRecord.{StepRecord}
 use Rattle.rules.specs.declared.Refusal.{Refusal}
 use Rattle.rules.specs.declared.Placement.{Placement}
@@ -21,6 +23,17 @@ stepIn t =
     else if eqb (t .kind) 1 then configure (t .label) (t .attributes)
     else prototype (t .label)
 
+-- What its kind says.
+module _ (t : StepRecord) where
+  pub is-insert : t .kind ≡ 0 → stepIn t ≡ insert (t .label) (t .attributes)
+  is-insert e = rw e
+
+  pub is-configure : t .kind ≡ 1 → stepIn t ≡ configure (t .label) (t .attributes)
+  is-configure e = rw e
+
+  pub is-prototype : t .kind ≢ 0 → t .kind ≢ 1 → stepIn t ≡ prototype (t .label)
+  is-prototype a b = rw (ne-eqb (t .kind) 0 a, ne-eqb (t .kind) 1 b)
+
 -- A result is written, and answered as `given` says it; "Every one" of the refusals "leaves all lent words
 -- unchanged, prunes included".
 abbrev pub Does : {A R : Type 0} → (given : A → R) (denied : Refusal → R) → (before after : List ℕ)
@@ -31,3 +44,22 @@ Does given denied before after (refused x) r = (after ≡ before) × (r ≡ deni
 -- A rule of a shape.
 abbrev pub Places : (before after : List ℕ) → Got Placed → Placement → Type 0
 Places = Does At Refused
+
+-- The rule gives a result.
+abbrev pub Passes : {A : Type 0} → Got A → Type 0
+Passes {A} g = (y : A) × (g ≡ ok y)
+
+-- It then says the words and the place, and no more.
+module _ {before after : List ℕ} {g : Got Placed} {y : Placed} (passed : g ≡ ok y) {r : ℕ} where
+  pub places : Becomes before after (y .0) → r ≡ y .1 → Places before after g (At r)
+  places became its = rw passed (became, ap At its)
+
+  pub placed : Places before after g (At r) → Becomes before after (y .0) × (r ≡ y .1)
+  placed p = let (became, its) = rw passed at p in (became, cc)
+
+-- A change, and then a rule that gives what h gives.
+pub then-places : {a b : List ℕ} (c : List ℕ) {m : Model} {g h : Got Placed} (r : ℕ) → g ≡ h → Passes h
+    → Becomes a b m → Places b c g (At r) → Places a c h (At r)
+then-places c r same (y, passed) first p =
+    let (became, its) = placed (same ∙ passed) p in
+    places passed (and-then first became) its

@@ -2,14 +2,16 @@
 -- Assumes nothing.
 use mathlib.Core.Bool.{Bool, true}
 use mathlib.Core.List.{List}
-use mathlib.Core.Path.{_≡_, refl}
+use mathlib.Core.Path.{_≡_, refl, sym}
 use Prim.Native.Nat.{ℕ, _≤_}
 use native.Mathlib.Omega.{arith}
+use lib.Dec.{eqb}
 use lib.ListN.{length}
-use Rattle.store.specs.Lists.{at}
+use Rattle.store.specs.Lists.{at, lowest}
 use Rattle.rules.specs.declared.Refusal.{Refusal}
 use Rattle.rules.specs.Refusals.{Got, ok, refused, _>>=_, place}
 use Rattle.rules.specs.FirstLaws.{place-given}
+use Rattle.rules.specs.Settled.{guard-passed, same-given}
 
 -- What stands below a part has been given the part's result.
 pub record Bound {A B : Type 0} (g : Got A) (f : A → Got B) (y : B) : Type 0 where
@@ -32,3 +34,10 @@ pub place-passed : {A : Type 0} (r : Refusal) (isFree : A → Bool) (d : A) (xs 
 place-passed r isFree d xs n e =
     let l = place-given isFree d r xs n .0 e in
     record { low = l .low; high = l .high; wasFree = l .passes }
+
+-- It is the lowest one.
+pub place-lowest : {A : Type 0} (r : Refusal) (isFree : A → Bool) (xs : List A) (n : ℕ)
+    → place r isFree xs ≡ ok n → n ≡ lowest isFree 1 xs
+place-lowest r isFree xs n e =
+    let its = lowest isFree 1 xs in
+    sym (same-given (guard-passed r (eqb its 0) (ok its) n e .1))
