@@ -59,6 +59,10 @@ grant action (m, n) = let s = shapeAt m n in do
   refuse HoldsFull (leb 65535 (s .holds))
   ok (putShape m n (withHolds s (s .holds + 1)), Given n action (s .transitions))
 
+-- The hold comes when the rule has given its result.
+abbrev pub thenGrant : ChangeTransitionAction → Got Placed → Got (Model × Answer)
+thenGrant action rule = rule >>= grant action
+
 -- "accessor to data is Remove, data to accessor Insert"; equal width "Nothing".
 abbrev pub actionFor : (old new : ℕ) → ChangeTransitionAction
 actionFor old new =

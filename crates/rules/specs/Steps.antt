@@ -278,3 +278,7 @@ limited (m, n) =
     if eqb (s .transitions) 1024
     then fresh m (uniqueShape 0 (s .properties) (s .prototype)) (entries m s)
     else ok (m, n)
+
+-- The limit is looked at when the steps are taken.
+abbrev pub thenLimit : Got Placed → Got Placed
+thenLimit rule = rule >>= limited

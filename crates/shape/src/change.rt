@@ -19,9 +19,8 @@ ghost use Rattle.store.specs.Layout.{parse};
 ghost use Rattle.store.specs.Image.{Formed};
 ghost use Rattle.rules.specs.Numbers.{goodKey};
 ghost use Rattle.rules.specs.Shapes.{has, attributesIn, entries};
-ghost use Rattle.rules.specs.Refusals.{_>>=_};
 ghost use Rattle.rules.specs.Unique.{changed};
-ghost use Rattle.rules.specs.Calls.{unheld, grant, perform, changeKey, actionFor};
+ghost use Rattle.rules.specs.Calls.{unheld, thenGrant, perform, changeKey, actionFor};
 ghost use Rattle.rules.specs.Placing.{Places};
 ghost use Rattle.rules.specs.Replies.{Answers, shapeReply};
 ghost use Rattle.theorems.specs.Facts.{Sound};
@@ -75,7 +74,7 @@ fn change(
         ⌝ }
     ensures { λ r. ⌜
         Answers (now (image .entry)) (now (image .exit))
-        (changed (parse (now (image .entry))) n key (attributes .0) >>= grant (actionFor (old .0) (attributes .0))) (shapeReply r)
+        (thenGrant (actionFor (old .0) (attributes .0)) (changed (parse (now (image .entry))) n key (attributes .0))) (shapeReply r)
         ⌝ }
 {
     if is_unique(image, n) & old.width_match(attributes) & is_full(image, n) {

@@ -21,9 +21,8 @@ ghost use Rattle.store.specs.Image.{Formed};
 ghost use Rattle.rules.specs.declared.ChangeTransitionAction.the-variants.{Nothing};
 ghost use Rattle.rules.specs.Numbers.{goodKey};
 ghost use Rattle.rules.specs.Shapes.{has, entries};
-ghost use Rattle.rules.specs.Refusals.{_>>=_};
 ghost use Rattle.rules.specs.Unique.{inserted};
-ghost use Rattle.rules.specs.Calls.{unheld, grant, perform, insertKey};
+ghost use Rattle.rules.specs.Calls.{unheld, thenGrant, perform, insertKey};
 ghost use Rattle.rules.specs.Placing.{Places};
 ghost use Rattle.rules.specs.Replies.{Answers, shapeReply};
 ghost use Rattle.theorems.specs.Facts.{Sound};
@@ -68,7 +67,7 @@ fn insert(image: &mut [u32], n: u32, key: u32, attributes: SlotAttributes) -> Sh
     requires { ⌜ attributes .0 ≤ 31 ⌝ }
     ensures { λ r. ⌜
         Answers (now (image .entry)) (now (image .exit))
-        (inserted (parse (now (image .entry))) n key (attributes .0) >>= grant Nothing) (shapeReply r)
+        (thenGrant Nothing (inserted (parse (now (image .entry))) n key (attributes .0))) (shapeReply r)
         ⌝ }
 {
     if is_unique(image, n) & is_full(image, n) {

@@ -13,7 +13,7 @@ use slot::SlotAttributes;
 use steps::put_step;
 use store::image::get_shape;
 ghost use mathlib.Core.Path.{_≡_};
-ghost use mathlib.Core.Bool.{true};
+ghost use mathlib.Core.Bool.{true, false};
 ghost use Prim.Native.Nat.{_≤_, _<_};
 ghost use lib.ListN.{length, drop};
 ghost use Rattle.slot.specs.Attributes.{sameWidth};
@@ -21,8 +21,7 @@ ghost use Rattle.store.specs.Layout.{parse};
 ghost use Rattle.store.specs.Image.{Formed};
 ghost use Rattle.rules.specs.Numbers.{goodKey};
 ghost use Rattle.rules.specs.Shapes.{has, attributesIn};
-ghost use Rattle.rules.specs.Refusals.{_>>=_};
-ghost use Rattle.rules.specs.Steps.{insert, prototype, step, steps, limited, removeShared, changeShared};
+ghost use Rattle.rules.specs.Steps.{insert, prototype, step, steps, limited, thenLimit, removeShared, changeShared};
 ghost use Rattle.rules.specs.Placing.{stepIn, Places};
 ghost use Rattle.steps.specs.Records.{records, stepsIn};
 ghost use Rattle.theorems.specs.Facts.{Sound};
@@ -64,7 +63,7 @@ fn transition(image: &mut [u32], from: u32, steps: &[u32], start: usize) -> Plac
     requires { ⌜ LegalSteps (drop start (stepsIn (now steps))) (parse (now image)) from ⌝ }
     ensures { λ r. ⌜
         Places (now (image .entry)) (now (image .exit))
-        (steps (drop start (stepsIn (now (steps .entry)))) (parse (now (image .entry))) from >>= limited) r
+        (thenLimit (steps (drop start (stepsIn (now (steps .entry)))) (parse (now (image .entry))) from)) r
         ⌝ }
 {
     match plan_limited(image, from, steps, start) {
@@ -82,7 +81,7 @@ fn one_step(image: &mut [u32], n: u32, t: StepRecord) -> Placement
     requires { ⌜ Legal (parse (now image)) n (stepIn t) ⌝ }
     ensures { λ r. ⌜
         Places (now (image .entry)) (now (image .exit))
-        (step (parse (now (image .entry))) n (stepIn t) >>= limited) r
+        (thenLimit (step (parse (now (image .entry))) n (stepIn t))) r
         ⌝ }
 {
     let mut steps = [0u32; 3];
@@ -101,7 +100,7 @@ pub fn insert_property_transition(
     requires { ⌜ Legal (parse (now image)) n (insert key (attributes .0)) ⌝ }
     ensures { λ r. ⌜
         Places (now (image .entry)) (now (image .exit))
-        (step (parse (now (image .entry))) n (insert key (attributes .0)) >>= limited) r
+        (thenLimit (step (parse (now (image .entry))) n (insert key (attributes .0)))) r
         ⌝ }
 {
     one_step(
@@ -122,7 +121,7 @@ pub fn change_prototype_transition(image: &mut [u32], n: u32, to: u32) -> Placem
     requires { ⌜ Legal (parse (now image)) n (prototype to) ⌝ }
     ensures { λ r. ⌜
         Places (now (image .entry)) (now (image .exit))
-        (step (parse (now (image .entry))) n (prototype to) >>= limited) r
+        (thenLimit (step (parse (now (image .entry))) n (prototype to))) r
         ⌝ }
 {
     one_step(
@@ -144,7 +143,7 @@ pub fn remove_property_transition(image: &mut [u32], n: u32, key: u32) -> Placem
     requires { ⌜ has key (entriesAt (parse (now image)) n) ≡ true ⌝ }
     ensures { λ r. ⌜
         Places (now (image .entry)) (now (image .exit))
-        (removeShared (parse (now (image .entry))) n key >>= limited) r
+        (thenLimit (removeShared (parse (now (image .entry))) n key)) r
         ⌝ }
 {
     let mut steps = [0u32; 3072];
@@ -161,7 +160,7 @@ fn change_width(image: &mut [u32], n: u32, key: u32, attributes: SlotAttributes)
     requires { ⌜ sameWidth (attributesIn key (entriesAt (parse (now image)) n)) (attributes .0) ≡ false ⌝ }
     ensures { λ r. ⌜
         Places (now (image .entry)) (now (image .exit))
-        (changeShared (parse (now (image .entry))) n key (attributes .0) >>= limited) r
+        (thenLimit (changeShared (parse (now (image .entry))) n key (attributes .0))) r
         ⌝ }
 {
     let mut steps = [0u32; 3072];
@@ -204,7 +203,7 @@ pub fn change_attributes_transition(
     requires { ⌜ attributes .0 ≤ 31 ⌝ }
     ensures { λ r. ⌜
         Places (now (image .entry)) (now (image .exit))
-        (changeShared (parse (now (image .entry))) n key (attributes .0) >>= limited) r
+        (thenLimit (changeShared (parse (now (image .entry))) n key (attributes .0))) r
         ⌝ }
 {
     if !width_stays(image, n, key, attributes) {

@@ -1,0 +1,3 @@
+-- Steps that were planned and then taken, and the limit.
+-- Assumes nothing.
+use mathlib.Core.List.{List}
