@@ -1,6 +1,6 @@
 -- A child that is made: the places it takes, and the words that code writes for it.
 -- Assumes nothing.
-use mathlib.Core.Bool.{_&&_}
+use mathlib.Core.Bool.{Bool, true, _&&_}
 use mathlib.Core.List.{List}
 use mathlib.Core.Logic.{_⊎_, inl, inr, _≢_}
 use mathlib.Core.Path.{_≡_, refl, sym, _∙_, ap, ap₂}
@@ -35,7 +35,7 @@ use Rattle.theorems.specs.Taken.{bind-passed, place-passed, place-lowest}
 use Rattle.theorems.specs.Child.{Legal}
 use Rattle.child_table.specs.Parents.{Parent}
 
--- ## The records
+-- ## The step's edge
 
 pub property-edge : (n c : ℕ) (t : StepRecord) → t .kind ≤ 1
     → record { parent = n; kind = 0; label = t .label; attributes = t .attributes; child = c }
@@ -107,11 +107,12 @@ grows m n t {c} (y, e) its =
       gave = e ∙ sym (rw free at (d .below));
     }
 
+byte-low : (k a : ℕ) (b : Bool) → (goodKey k && goodAttributes a && b) ≡ true → a ≤ 31
+byte-low k a b h = leb-true a 31 (and-both (goodKey k) (and-both (goodKey k && goodAttributes a) h .0) .1)
+
 label-low : (m : Model) (n : ℕ) (t : Step) → Legal m n t → edgeAttributes t ≤ 31
-label-low m n (insert k a) legal =
-    leb-true a 31 (and-both (goodKey k) (and-both (goodKey k && goodAttributes a) (legal .label) .0) .1)
-label-low m n (configure k a) legal =
-    leb-true a 31 (and-both (goodKey k) (and-both (goodKey k && goodAttributes a) (legal .label) .0) .1)
+label-low m n (insert k a) legal = byte-low k a _ (legal .label)
+label-low m n (configure k a) legal = byte-low k a _ (legal .label)
 label-low m n (prototype p) legal = omega arith
 
 parent : (m : Model) → Sound m → (n : ℕ) (t : Step) → Legal m n t → {c : ℕ} → Grows m n t c
