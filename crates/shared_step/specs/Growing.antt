@@ -15,7 +15,7 @@ use Rattle.store.specs.Model.{Model, noShape, noEdge, freeShape, freeEdge, shap
 use Rattle.store.specs.Model.{putEdge}
 use Rattle.store.specs.Layout.{parse}
 use Rattle.store.specs.Image.{Formed, Place, Becomes, and-then}
-use Rattle.store.specs.PlaceLaws.{at-inside, same?}
+use Rattle.store.specs.PlaceLaws.{same?}
 use Rattle.store.specs.ListLaws.{and-both, both-and, not-both}
 use Rattle.store.specs.declared.Shape.{Shape}
 use Rattle.store.specs.declared.Edge.{Edge}
@@ -30,7 +30,7 @@ use Rattle.rules.specs.Placing.{stepIn, is-insert, is-configure, is-prototype}
 use Rattle.rules.specs.Placing.{Passes, Places, places, placed}
 use Rattle.rules.specs.Steps.{Step, insert, configure, prototype, edgeOf, edgeAttributes, added, Placed}
 use Rattle.rules.specs.Steps.{childTable, childShape, grow}
-use Rattle.theorems.specs.Facts.{Sound, shared-used, used-table}
+use Rattle.theorems.specs.Facts.{Sound, shared-used, used-place-inside, used-table}
 use Rattle.theorems.specs.Taken.{bind-passed, place-passed, place-lowest}
 use Rattle.theorems.specs.Child.{Legal}
 use Rattle.child_table.specs.Parents.{Parent}
@@ -60,11 +60,8 @@ Ready ws n t g = Formed ws × (Sound (parse ws) × (Legal (parse ws) n t × Pass
 
 pub shape-place : {ws : List ℕ} {n : ℕ} {t : Step} {g : Got Placed} → Ready ws n t g
     → Place (length (parse ws .shapes)) n
-unfolding shapeAt
 shape-place {ws} {n} (f, (sound, (legal, passes))) =
-    let u = shared-used (shapeAt (parse ws) n) (legal .isShared) in
-    let (low, high) = at-inside freeShape (parse ws .shapes) n noShape refl u in
-    record { low = low; high = high }
+    used-place-inside (parse ws) n (shared-used (shapeAt (parse ws) n) (legal .isShared))
 
 -- A child that is not refused stands at c.
 record Grows (m : Model) (n : ℕ) (t : Step) (c : ℕ) : Type 0 where

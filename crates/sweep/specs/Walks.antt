@@ -10,13 +10,12 @@ use borrow.Author.Tests.{eqb-true, eq-eqb, ne-eqb}
 use lib.Dec.{eqb}
 use lib.ListN.{length, set, length-set}
 use Rattle.store.specs.Lists.{any}
-use Rattle.store.specs.Model.{Model, noShape, freeShape, shapeAt}
-use Rattle.store.specs.PlaceLaws.{same?, at-inside}
+use Rattle.store.specs.Model.{Model, shapeAt}
+use Rattle.store.specs.PlaceLaws.{same?}
 use Rattle.store.specs.ListLaws.{Decided, either, both-and, or-then, not-both}
-use Rattle.store.specs.Image.{Place}
 use Rattle.rules.specs.Shapes.{shared, unique}
 use Rattle.rules.specs.Sweep.{held, reached}
-use Rattle.theorems.specs.Facts.{Used, Sound, used-place}
+use Rattle.theorems.specs.Facts.{Used, Sound, used-place, used-place-inside}
 use Rattle.theorems.specs.HeldChains.{OnHeldChain, behind, behind-none, chain-closed, held-on-its-chain}
 use Rattle.theorems.specs.HeldChains.{reached-on-chain}
 use Rattle.sweep.specs.Marks.{marked, mark-says}
@@ -41,12 +40,6 @@ module _ (m : Model) where
     pub grows : (n : ℕ) → marked before n ≡ true → marked marks n ≡ true
     pub start : Settled marks standing from
     pub stands : (standing ≡ 0) ⊎ OnHeldChain m standing
-
-  pub used-place-inside : (n : ℕ) → Used m n → Place (length (m .shapes)) n
-  unfolding shapeAt
-  used-place-inside n u =
-      let inside = at-inside freeShape (m .shapes) n noShape refl u in
-      record { low = inside .0; high = inside .1 }
 
   pub walk-start : {marks : List ℕ} {from : ℕ} → Marking marks 0 → OnHeldChain m from
       → Walk marks marks from from
@@ -74,7 +67,7 @@ module _ (m : Model) where
 
     pub standing-inside : p ≢ 0 → p < length marks
     standing-inside some =
-        let high = used-place-inside p (standing-on-chain some .isUsed) .high in
+        let high = used-place-inside m p (standing-on-chain some .isUsed) .high in
         let room = w .marking .room in
         omega arith
 

@@ -10,6 +10,8 @@ use lib.Dec.{eqb}
 use lib.ListN.{length}
 use Rattle.store.specs.Model.{Table, free, used, Model, noCounters, noShape, noEdge, freeShape, freeTable}
 use Rattle.store.specs.Model.{freeEdge, shapeAt, tableAt, edgeAt, entriesOf}
+use Rattle.store.specs.Image.{Place}
+use Rattle.store.specs.PlaceLaws.{at-inside}
 use Rattle.store.specs.ListLaws.{Decided, and-both, both-and, either}
 use Rattle.store.specs.declared.Shape.{Shape}
 use Rattle.store.specs.declared.Entry.{Entry}
@@ -131,6 +133,12 @@ shared-not-unique s h = ap (λ (x : ℕ). eqb x 2) (eqb-true (s .state) 1 h)
 pub used-place : (m : Model) (n : ℕ) → Used m n → n ≢ 0
 unfolding shapeAt
 used-place m n u e = let z : Used m 0 = rw e at u in true≢false z
+
+pub used-place-inside : (m : Model) (n : ℕ) → Used m n → Place (length (m .shapes)) n
+unfolding shapeAt
+used-place-inside m n u =
+    let inside = at-inside freeShape (m .shapes) n noShape refl u in
+    record { low = inside .0; high = inside .1 }
 
 pub used-table : (t : Table) → freeTable t ≡ false → t ≡ used (entriesOf t)
 used-table free e = absurd (true≢false e)

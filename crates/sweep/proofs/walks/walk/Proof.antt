@@ -5,7 +5,7 @@ use borrow.Author.Needs.{needs}
 use Rattle.store.specs.Layout.{parse}
 use Rattle.sweep.specs.Marks.{unmarked, unmarked-less}
 use Rattle.sweep.specs.Walks.{Walk, walk-start, walk-on, walk-end, standing-inside, standing-on-chain}
-use Rattle.sweep.specs.Walks.{used-place-inside}
+use Rattle.theorems.specs.Facts.{used-place-inside}
 use Rattle.sweep.proofs.walks.walk.Statement.{statement}
 use Rattle.sweep.proofs.walks.walk.Tie as tie
 
