@@ -6,7 +6,7 @@ use mathlib.Core.Logic.{_≢_, inl, inr}
 use mathlib.Core.Option.{Option, none, some}
 use mathlib.Core.Path.{_≡_, refl, _∙_}
 use Prim.Native.Nat.{ℕ, _+_, _%_, _≤_, _<_}
-use borrow.Author.Tests.{eqb-true, eqb-false, ne-eqb}
+use borrow.Author.Tests.{eqb-true, eqb-false, eq-eqb, ne-eqb}
 use native.Mathlib.Omega.{arith}
 use lib.Dec.{eqb}
 use lib.ListN.{length}
@@ -16,8 +16,11 @@ use Rattle.store.specs.Model.{Model, noEdge, edgeAt, putEdge, shapeAt}
 use Rattle.store.specs.Layout.{parse}
 use Rattle.store.specs.Image.{Formed, Place, Becomes, unchanged, and-then}
 use Rattle.store.specs.PlaceLaws.{FirstOrNone, first-or-none, lowest-first, lowest-none, put-back}
+use Rattle.store.specs.ListLaws.{Decided, either}
 use Rattle.store.specs.declared.Edge.{Edge}
-use Rattle.rules.specs.Steps.{dead, prune, counter, putCounter, withEdges, pruned, counted}
+use Rattle.rules.specs.declared.StepRecord.{StepRecord}
+use Rattle.rules.specs.Placing.{stepIn}
+use Rattle.rules.specs.Steps.{edgeOf, dead, prune, counter, putCounter, withEdges, pruned, counted}
 use Rattle.forward_transition.specs.Loops.{Changing, change-next}
 use Rattle.forward_transition.specs.declared.Transition.{Transition}
 use Rattle.forward_transition.specs.declared.Transition.the-variants.{Live, Dead, Absent}
@@ -33,6 +36,22 @@ module _ (o : Option Edge) {e : Edge} (found : some e ≡ o) where
 
   pub found-live : e .child ≢ 0 → Live (e .child) ≡ transitionOf o
   found-live child = rw (← found, ne-eqb (e .child) 0 child)
+
+-- ## The edge of a step
+
+module _ (n : ℕ) (t : StepRecord) (c : ℕ) where
+  abbrev edge : (kind attributes : ℕ) → Edge
+  edge kind a = record { parent = n; kind = kind; label = t .label; attributes = a; child = c }
+
+  pub prototype-edge : 1 < t .kind → edge 1 0 ≡ edgeOf n (stepIn t) c
+  prototype-edge high = rw (ne-eqb (t .kind) 0 (λ e. omega arith), ne-eqb (t .kind) 1 (λ e. omega arith))
+
+  pub property-edge : t .kind ≤ 1 → edge 0 (t .attributes) ≡ edgeOf n (stepIn t) c
+  property-edge low = go (either (eqb (t .kind) 0))
+    where
+      go : Decided (eqb (t .kind) 0) → edge 0 (t .attributes) ≡ edgeOf n (stepIn t) c
+      go (inl q) = rw q
+      go (inr q) = let some = eqb-false (t .kind) 0 q in rw (q, eq-eqb (t .kind) 1 (omega arith))
 
 -- ## A prune, edge by edge
 

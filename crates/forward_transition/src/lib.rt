@@ -1,5 +1,6 @@
 // The edges that lead from a shape to the children that its steps made.
 // A dead edge is one whose child was swept.
+use rules::StepRecord;
 use store::Counters;
 use store::Edge;
 use store::image::edge_count;
@@ -17,7 +18,8 @@ ghost use Rattle.store.specs.Lists.{first, keep, lowest};
 ghost use Rattle.store.specs.Layout.{parse};
 ghost use Rattle.store.specs.Image.{Formed, Place, Becomes};
 ghost use Rattle.store.specs.Model.{freeEdge, edgeAt, putEdge, shapeAt};
-ghost use Rattle.rules.specs.Steps.{alike, dead, prune, withEdges, pruned, counted};
+ghost use Rattle.rules.specs.Placing.{stepIn};
+ghost use Rattle.rules.specs.Steps.{edgeOf, alike, dead, prune, withEdges, pruned, counted};
 ghost use Rattle.rules.specs.Steps.{counter, setCounter, putCounter};
 ghost use Rattle.forward_transition.specs.Transitions.{transitionOf, unlessDead, atLimit};
 
@@ -47,6 +49,28 @@ fn is_dead(e: Edge, parent: u32, kind: u32) -> bool
     ensures { λ r. ⌜ r ≡ dead parent kind e ⌝ }
 {
     belongs(e, parent, kind) && e.child == 0
+}
+
+// A prototype's edge has no attributes.
+pub fn edge_of(parent: u32, t: StepRecord, child: u32) -> Edge
+    ensures { λ r. ⌜ r ≡ edgeOf parent (stepIn t) child ⌝ }
+{
+    if t.kind > 1 {
+        return Edge {
+            parent,
+            kind: 1,
+            label: t.label,
+            attributes: 0,
+            child,
+        };
+    }
+    Edge {
+        parent,
+        kind: 0,
+        label: t.label,
+        attributes: t.attributes,
+        child,
+    }
 }
 
 // The child of `wanted` is not looked at.
@@ -129,7 +153,7 @@ pub fn dead_edges(image: &[u32], parent: u32, kind: u32) -> u32
     found
 }
 
-fn counter(counters: Counters, kind: u32) -> u32
+pub fn counter(counters: Counters, kind: u32) -> u32
     ensures { λ r. ⌜ r ≡ counter kind counters ⌝ }
 {
     if kind == 0 {

@@ -10,6 +10,7 @@ use lib.Dec.{eqb}
 use Rattle.store.specs.Lists.{lowest}
 use Rattle.rules.specs.declared.Refusal.{Refusal}
 use Rattle.rules.specs.Refusals.{Got, ok, refused, _>>=_, _>>_, refuse, place}
+use Rattle.rules.specs.Settled.{same-given}
 use Rattle.theorems.specs.Taken.{FreePlace, place-passed}
 use Rattle.plan.specs.Plan.{count}
 use Rattle.plan.specs.Counting.{lowest-count}
@@ -34,6 +35,10 @@ module _ {A B : Type 0} {R : A → B → Type 0} where
     λ e. let f = e .1 in let z : _≡_ {A = ℕ} 0 1 = cc in absurd (omega arith),
     λ e. let f = e .1 in let z : _≡_ {A = ℕ} 0 1 = cc in absurd (omega arith),
   )
+
+  pub agree-given : {g : Got A} {h : Got B} → Agree R g h → {a : A} → g ≡ ok a → (b : B) × R a b
+  agree-given (given {a} {b} x) e = (b, rw (same-given e) at x)
+  agree-given same e = let z : _≡_ {A = ℕ} 0 1 = cc in absurd (omega arith)
 
 -- ## How it is built
 

@@ -1,9 +1,14 @@
 pub mod Plan
+pub mod Answers
+pub mod Along
+pub mod Budget
 pub mod Counting
 pub mod Agree
 pub mod NewChild
 pub mod NewStep
 pub mod PlanRight
+pub mod LiveSteps
+pub mod HeldResult
 pub mod PlanClosed
 pub mod PlanCases
 pub mod PlanLegal

@@ -15,7 +15,7 @@ use Rattle.slot.specs.If.{if_then_else_}
 use Rattle.store.specs.Lists.{at, put}
 use Rattle.store.specs.Model.{Table, free, used, Model, noCounters, noShape, noEdge, freeShape, freeTable}
 use Rattle.store.specs.Model.{freeEdge, shapeAt, tableAt, edgeAt, entriesOf, putShape, putTable, putEdge}
-use Rattle.store.specs.PlaceLaws.{at-inside, at-put-same, AfterPut, here, elsewhere, after-put}
+use Rattle.store.specs.PlaceLaws.{at-put-same, AfterPut, here, elsewhere, after-put}
 use Rattle.store.specs.ListLaws.{Decided, either, not-both}
 use Rattle.store.specs.declared.Shape.{Shape}
 use Rattle.store.specs.declared.Entry.{Entry}
@@ -25,11 +25,12 @@ use Rattle.rules.specs.Shapes.{has, appended, configured, tableOf, entries}
 use Rattle.rules.specs.Refusals.{refuse}
 use Rattle.rules.specs.Steps.{Step, insert, configure, prototype, added, edgeOf, Placed, copyTo, childTable}
 use Rattle.rules.specs.Steps.{childShape, grow}
-use Rattle.theorems.specs.Facts.{Used, Sound, shared-used, used-place, used-table}
+use Rattle.theorems.specs.Facts.{Used, Sound, shared-used, used-place, table-inside, keys-fit}
 use Rattle.theorems.specs.Entries.{length-appended, length-configured}
 use Rattle.theorems.specs.Taken.{FreePlace}
 use Rattle.theorems.specs.Child.{Legal, withTables}
-use Rattle.plan.specs.Plan.{count, isWhole, Room, roomAt, copies, wholeAfter, spent, spend}
+use Rattle.plan.specs.declared.Room.{Room}
+use Rattle.plan.specs.Plan.{count, isWhole, roomAt, copies, wholeAfter, spent, spend}
 use Rattle.plan.specs.Counting.{count-taken, count-same}
 use Rattle.plan.specs.Agree.{Agree, given, agree-map, agree-then, agree-guard, agree-place}
 
@@ -79,9 +80,6 @@ module _ (m : Model) (sound : Sound m) (n : ℕ) (u : Used m n) where
   unfolding childTable putTable tableAt
   table-agrees (insert k a) legal = go (either (isWhole m s))
     where
-      inside : (1 ≤ s .table) × (s .table ≤ length (m .tables))
-      inside = at-inside freeTable (m .tables) (s .table) free refl (sound .shapes n u .tableUsed)
-
       none : has k (entries m s) ≡ false
       none = not-true (has k (entries m s)) (legal .may)
 
@@ -90,7 +88,9 @@ module _ (m : Model) (sound : Sound m) (n : ℕ) (u : Used m n) where
           (refuse TablesFull (not (isWhole m s) && eqb (count freeTable (m .tables)) 0))
       go (inl w) =
           let es = appended (tableOf m s) k a in
-          let (low, high) = inside in
+          let inside = table-inside m sound n u in
+          let low = inside .low in
+          let high = inside .high in
           let all = eqb-true (s .properties) (length (tableOf m s)) w in
           let long = length-appended (tableOf m s) k a in
           rw (w, absent k none w)
@@ -119,10 +119,11 @@ module _ (m : Model) (sound : Sound m) (n : ℕ) (u : Used m n) where
 
 -- ## The child
 
--- A place that no edge starts from, with both counters 0.
+-- A place that no edge starts from, with both counters 0 and no holds.
 pub record Fresh (m : Model) (n : ℕ) : Type 0 where
   pub alone : (e : ℕ) → edgeAt m e .parent ≢ n
   pub counters : shapeAt m n .counters ≡ noCounters
+  pub unheld : shapeAt m n .holds ≡ 0
 
 -- The child that is made is fresh, and r is the room it leaves.
 pub record Made (y : Placed) (r : Room) : Type 0 where
@@ -198,6 +199,7 @@ module _ (m : Model) (sound : Sound m) (n : ℕ) (u : Used m n) (t : Step) where
         fresh = record {
           alone = alone c shapePlace y tabled e edgePlace;
           counters = ap (λ (x : Shape). x .counters) (stands c shapePlace y tabled e edgePlace);
+          unheld = ap (λ (x : Shape). x .holds) (stands c shapePlace y tabled e edgePlace);
         };
         left = left c shapePlace y tabled e edgePlace;
       })))))
@@ -207,13 +209,6 @@ module _ (m : Model) (sound : Sound m) (n : ℕ) (u : Used m n) (t : Step) where
 
       all : count freeEdge (m .edges) ≡ count freeEdge (m .edges) + 0
       all = sym (add-zero (count freeEdge (m .edges)))
-
-      room : s .properties ≤ m .K
-      room =
-          let its = used-table (tableAt m (s .table)) (sound .shapes n u .tableUsed) in
-          let most = sound .tables (s .table) (tableOf m s) its .room in
-          let few = fits m sound n u in
-          omega arith
 
       same-keys :
           (eqb (added t) 1 && eqb (s .properties) (m .K)) ≡ (eqb (added t) 1 && eqb (m .K - s .properties) 0)
@@ -226,5 +221,5 @@ module _ (m : Model) (sound : Sound m) (n : ℕ) (u : Used m n) (t : Step) where
               q ∙ sym (eq-eqb (m .K - s .properties) 0 (omega arith))
           go (inr q) =
               let few = eqb-false (s .properties) (m .K) q in
-              let most = room in
+              let most = keys-fit m sound n u in
               q ∙ sym (ne-eqb (m .K - s .properties) 0 (λ z. few (omega arith)))

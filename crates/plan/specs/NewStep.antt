@@ -5,14 +5,15 @@ use mathlib.Core.List.{List}
 use mathlib.Core.Logic.{inl, inr}
 use mathlib.Core.Option.{Option, none, some}
 use mathlib.Core.Path.{_≡_, refl, sym}
-use Prim.Native.Nat.{ℕ, suc, _+_, _≤_}
+use Prim.Native.Nat.{ℕ, suc, _+_}
 use borrow.Author.Tests.{ne-eqb}
 use native.Mathlib.Omega.{arith}
 use lib.Dec.{eqb}
 use lib.ListN.{length}
 use Rattle.slot.specs.If.{if_then_else_}
 use Rattle.store.specs.Model.{Model, noShape, noEdge, freeShape, freeEdge, shapeAt, tableAt, edgeAt, putShape}
-use Rattle.store.specs.PlaceLaws.{at-inside, at-put-same, first-none}
+use Rattle.store.specs.PlaceLaws.{at-put-same, first-none}
+use Rattle.store.specs.Image.{Place}
 use Rattle.store.specs.ListLaws.{Decided, either}
 use Rattle.store.specs.declared.Counters.{Counters}
 use Rattle.store.specs.declared.Shape.{Shape}
@@ -20,7 +21,7 @@ use Rattle.store.specs.declared.Edge.{Edge}
 use Rattle.rules.specs.Shapes.{withCounters}
 use Rattle.rules.specs.Steps.{Step, edgeOf, edgeKind, alike, prune, counter, setCounter, withEdges, pruned}
 use Rattle.rules.specs.Steps.{counted, make, along, step}
-use Rattle.theorems.specs.Facts.{Used, Sound, shared-used, used-place}
+use Rattle.theorems.specs.Facts.{Used, Sound, shared-used, used-place, used-place-inside}
 use Rattle.theorems.specs.Frame.{kept-used}
 use Rattle.theorems.specs.Prunes.{pruned-keeps, counted-keeps}
 use Rattle.theorems.specs.Child.{Legal}
@@ -36,9 +37,8 @@ module _ (m : Model) (n : ℕ) (u : Used m n) where
   abbrev s : Shape
   s = shapeAt m n
 
-  inside : (1 ≤ n) × (n ≤ length (m .shapes))
-  unfolding shapeAt
-  inside = at-inside freeShape (m .shapes) n noShape refl u
+  abbrev inside : Place (length (m .shapes)) n
+  inside = used-place-inside m n u
 
   module _ (es : List Edge) (c : Counters) where
     abbrev touched : Model
@@ -46,11 +46,11 @@ module _ (m : Model) (n : ℕ) (u : Used m n) where
 
     its-shape : shapeAt touched n ≡ withCounters s c
     unfolding shapeAt putShape
-    its-shape = at-put-same (m .shapes) n (withCounters s c) noShape (inside .0) (inside .1)
+    its-shape = at-put-same (m .shapes) n (withCounters s c) noShape (inside .low) (inside .high)
 
     same-free : count freeShape (touched .shapes) ≡ count freeShape (m .shapes)
     unfolding shapeAt putShape
-    same-free = count-same freeShape (m .shapes) n (withCounters s c) noShape (inside .0) (inside .1) refl
+    same-free = count-same freeShape (m .shapes) n (withCounters s c) noShape (inside .low) (inside .high) refl
 
     touched-room : (b back : ℕ) → count freeEdge es + b ≡ count freeEdge (m .edges) + back
         → roomAt touched n b ≡ roomAt m n back

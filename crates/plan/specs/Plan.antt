@@ -16,6 +16,8 @@ use Rattle.rules.specs.Refusals.{Got, ok, _>>=_, _>>_, refuse}
 use Rattle.rules.specs.Shapes.{tableOf}
 use Rattle.rules.specs.Steps.{Step, insert, configure, prototype, edgeOf, edgeKind, added, alike, dead}
 use Rattle.rules.specs.Steps.{counter}
+use Rattle.plan.specs.declared.Way.{Way}
+use Rattle.plan.specs.declared.Room.{Room}
 
 -- ## Along live edges
 
@@ -31,11 +33,6 @@ abbrev pub isEdge : Option Edge → Bool
 isEdge none = false
 isEdge (some e) = true
 
--- How many steps have a live edge, one after the other, and where they end.
-pub record Way : Type 0 where
-  pub found : ℕ
-  pub place : ℕ
-
 abbrev pub further : Way → Way
 further w = record { found = suc (w .found); place = w .place }
 
@@ -49,17 +46,6 @@ follow (t ∷ ts) m n =
 
 abbrev pub count : {A : Type 0} → (A → Bool) → List A → ℕ
 count test xs = length (keep test xs)
-
--- What the steps from a shape may use up.
-pub record Room : Type 0 where
-  -- K less the shape's keys
-  pub keys : ℕ
-  pub shapes : ℕ
-  pub tables : ℕ
-  pub edges : ℕ
-  -- the shape's table has no entries but the shape's own, so that it lacks each key that the shape lacks:
-  -- an insert appends to it
-  pub whole : Bool
 
 abbrev pub isWhole : Model → Shape → Bool
 isWhole m s = eqb (s .properties) (length (tableOf m s))

@@ -11,7 +11,8 @@ use Rattle.store.specs.Lists.{every}
 use Rattle.rules.specs.declared.Refusal.the-variants.{KeysFull, ShapesFull, TablesFull, EdgesFull}
 use Rattle.rules.specs.Refusals.{Got, ok, _>>=_, _>>_, refuse}
 use Rattle.rules.specs.Steps.{Step, insert, configure, prototype, added}
-use Rattle.plan.specs.Plan.{Room, spend, spendAll, appending, inserting}
+use Rattle.plan.specs.declared.Room.{Room}
+use Rattle.plan.specs.Plan.{spend, spendAll, appending, inserting}
 
 abbrev room : (keys shapes tables edges : ℕ) (whole : Bool) → Room
 room a s t e w = record { keys = a; shapes = s; tables = t; edges = e; whole = w }

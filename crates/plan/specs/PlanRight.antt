@@ -23,7 +23,8 @@ use Rattle.rules.specs.Steps.{Step, Placed, along, step, steps, fresh, limited}
 use Rattle.theorems.specs.Facts.{Sound}
 use Rattle.theorems.specs.Child.{Legal}
 use Rattle.theorems.specs.Stepped.{step-took}
-use Rattle.plan.specs.Plan.{edgeFor, childOf, count, Room, roomAt, firstGives, spendAll, plan}
+use Rattle.plan.specs.declared.Room.{Room}
+use Rattle.plan.specs.Plan.{edgeFor, childOf, count, roomAt, firstGives, spendAll, plan}
 use Rattle.plan.specs.Plan.{converted, planLimited}
 use Rattle.plan.specs.Agree.{Agree, given, same-refusal, both-given, agree-bind, agree-then, agree-map}
 use Rattle.plan.specs.Agree.{agree-place}
@@ -70,7 +71,7 @@ new-steps N (t ∷ ts) m sound n legal new total =
 
 -- ## Along live edges first
 
-live-step : (m : Model) (n : ℕ) (t : Step) → eqb (childOf (edgeFor m n t)) 0 ≡ false
+pub live-step : (m : Model) (n : ℕ) (t : Step) → eqb (childOf (edgeFor m n t)) 0 ≡ false
     → step m n t ≡ ok (m, childOf (edgeFor m n t))
 unfolding step
 live-step m n t live = go (edgeFor m n t) live

@@ -7,6 +7,7 @@ pub mod Sound
 pub mod Unique
 pub mod Sweep
 pub mod Calls
+pub mod Replies
 pub mod Trails
 pub mod Runner
 pub mod Ecma

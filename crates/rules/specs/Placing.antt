@@ -10,6 +10,7 @@ use Rattle.slot.specs.If.{if_then_else_}
 use Rattle.store.specs.Model.{Model}
 use Rattle.store.specs.Image.{Becomes, and-then}
 use Rattle.rules.specs.declared.StepRecord.{StepRecord}
+use Rattle.rules.specs.declared.Refusal.{Refusal}
 use Rattle.rules.specs.declared.Placement.{Placement}
 use Rattle.rules.specs.declared.Placement.the-variants.{At, Refused}
 use Rattle.rules.specs.Refusals.{Got, ok, refused}
@@ -33,10 +34,16 @@ module _ (t : StepRecord) where
   pub is-prototype : t .kind ≢ 0 → t .kind ≢ 1 → stepIn t ≡ prototype (t .label)
   is-prototype a b = rw (ne-eqb (t .kind) 0 a, ne-eqb (t .kind) 1 b)
 
--- "Every one .. leaves all lent words unchanged, prunes included."
+-- A result is written, and answered as `given` says it; "Every one" of the refusals "leaves all lent words
+-- unchanged, prunes included".
+abbrev pub Does : {A R : Type 0} → (given : A → R) (denied : Refusal → R) → (before after : List ℕ)
+    → Got (Model × A) → R → Type 0
+Does given denied before after (ok (m, a)) r = Becomes before after m × (r ≡ given a)
+Does given denied before after (refused x) r = (after ≡ before) × (r ≡ denied x)
+
+-- A rule of a shape.
 abbrev pub Places : (before after : List ℕ) → Got Placed → Placement → Type 0
-Places before after (ok (m, n)) r = Becomes before after m × (r ≡ At n)
-Places before after (refused x) r = (after ≡ before) × (r ≡ Refused x)
+Places = Does At Refused
 
 -- The rule gives a result.
 abbrev pub Passes : {A : Type 0} → Got A → Type 0

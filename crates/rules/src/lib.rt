@@ -1,5 +1,18 @@
-// The names that document 01 gives its refusals, and shape/mod.rs its actions.
+// The names that document 01 gives its refusals, and shape/mod.rs its actions; and what calls answer.
 // Code and definitions share them.
+use slot::Slot;
+ghost use mathlib.Core.Path.{_≡_};
+ghost use Rattle.rules.specs.Numbers.{goodKey};
+
+const ONE_KIND: u32 = 1 << 30;
+
+// Kinds 0 to 2 are strings, symbols and indexes.
+pub fn good_key(key: u32) -> bool
+    ensures { λ r. ⌜ r ≡ goodKey key ⌝ }
+{
+    key / ONE_KIND < 3
+}
+
 pub enum Refusal {
     Damaged,
     BadKey,
@@ -35,5 +48,49 @@ pub struct StepRecord {
 // What a rule gives in the lent image: the place of a shape, or a refusal.
 pub enum Placement {
     At(u32),
+    Refused(Refusal),
+}
+
+// A shape that a call gives, with one hold more.
+pub struct GivenShape {
+    pub shape: u32,
+    pub action: ChangeTransitionAction,
+    pub transitions: u32,
+}
+
+// How many shapes and tables a sweep has freed.
+pub struct FreedPlaces {
+    pub shapes: u32,
+    pub tables: u32,
+}
+
+pub enum ShapeReply {
+    Gives(GivenShape),
+    Refused(Refusal),
+}
+
+pub enum ReleaseReply {
+    Releases,
+    Refused(Refusal),
+}
+
+pub enum SweepReply {
+    Frees(FreedPlaces),
+    Refused(Refusal),
+}
+
+pub enum LookupReply {
+    Finds(Slot),
+    FindsNothing,
+    Refused(Refusal),
+}
+
+pub enum KeysReply {
+    Lists(u32),
+    Refused(Refusal),
+}
+
+pub enum NumberReply {
+    Is(u32),
     Refused(Refusal),
 }

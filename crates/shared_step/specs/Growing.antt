@@ -2,9 +2,9 @@
 -- Assumes nothing.
 use mathlib.Core.Bool.{Bool, true, _&&_}
 use mathlib.Core.List.{List}
-use mathlib.Core.Logic.{_⊎_, inl, inr, _≢_}
+use mathlib.Core.Logic.{_≢_}
 use mathlib.Core.Path.{_≡_, refl, sym, _∙_, ap, ap₂}
-use Prim.Native.Nat.{ℕ, _≤_, _<_}
+use Prim.Native.Nat.{ℕ, _≤_}
 use native.Mathlib.Omega.{arith}
 use borrow.Author.Tests.{eq-eqb, leb-true}
 use lib.Dec.{eqb}
@@ -15,18 +15,15 @@ use Rattle.store.specs.Model.{Model, noShape, noEdge, freeShape, freeEdge, shap
 use Rattle.store.specs.Model.{putEdge}
 use Rattle.store.specs.Layout.{parse}
 use Rattle.store.specs.Image.{Formed, Place, Becomes, and-then}
-use Rattle.store.specs.PlaceLaws.{same?}
 use Rattle.store.specs.ListLaws.{and-both, both-and, not-both}
 use Rattle.store.specs.declared.Shape.{Shape}
 use Rattle.store.specs.declared.Edge.{Edge}
-use Rattle.rules.specs.declared.StepRecord.{StepRecord}
 use Rattle.rules.specs.declared.Placement.the-variants.{At}
 use Rattle.rules.specs.declared.Refusal.the-variants.{KeysFull, ShapesFull, EdgesFull}
 use Rattle.rules.specs.Numbers.{goodKey}
 use Rattle.rules.specs.Shapes.{tableOf}
 use Rattle.rules.specs.Refusals.{Got, ok, place}
 use Rattle.rules.specs.Settled.{guard-passed}
-use Rattle.rules.specs.Placing.{stepIn, is-insert, is-configure, is-prototype}
 use Rattle.rules.specs.Placing.{Passes, Places, places, placed}
 use Rattle.rules.specs.Steps.{Step, insert, configure, prototype, edgeOf, edgeAttributes, added, Placed}
 use Rattle.rules.specs.Steps.{childTable, childShape, grow}
@@ -34,23 +31,6 @@ use Rattle.theorems.specs.Facts.{Sound, shared-used, used-place-inside, used-ta
 use Rattle.theorems.specs.Taken.{bind-passed, place-passed, place-lowest}
 use Rattle.theorems.specs.Child.{Legal}
 use Rattle.child_table.specs.Parents.{Parent}
-
--- ## The step's edge
-
-pub property-edge : (n c : ℕ) (t : StepRecord) → t .kind ≤ 1
-    → record { parent = n; kind = 0; label = t .label; attributes = t .attributes; child = c }
-    ≡ edgeOf n (stepIn t) c
-property-edge n c t low = go (same? (t .kind) 0)
-  where
-    go : (t .kind ≡ 0) ⊎ (t .kind ≢ 0)
-        → record { parent = n; kind = 0; label = t .label; attributes = t .attributes; child = c }
-        ≡ edgeOf n (stepIn t) c
-    go (inl e) = rw (is-insert t e)
-    go (inr e) = rw (is-configure t (omega arith))
-
-pub prototype-edge : (n c : ℕ) (t : StepRecord) → 1 < t .kind
-    → record { parent = n; kind = 1; label = t .label; attributes = 0; child = c } ≡ edgeOf n (stepIn t) c
-prototype-edge n c t high = rw (is-prototype t (λ e. omega arith) (λ e. omega arith))
 
 -- ## The places
 

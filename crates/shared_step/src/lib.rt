@@ -4,13 +4,13 @@ use child_table::child_table;
 use forward_transition::Transition;
 use forward_transition::add_edge;
 use forward_transition::count_up;
+use forward_transition::edge_of;
 use forward_transition::get;
 use forward_transition::prune_transitions;
 use rules::StepRecord;
 use steps::get_step;
 use steps::step_count;
 use store::Counters;
-use store::Edge;
 use store::Shape;
 use store::image::get_shape;
 use store::image::lowest_free_shape;
@@ -21,7 +21,7 @@ ghost use lib.ListN.{drop};
 ghost use Rattle.store.specs.Layout.{parse};
 ghost use Rattle.store.specs.Image.{Formed};
 ghost use Rattle.rules.specs.declared.Placement.the-variants.{At};
-ghost use Rattle.rules.specs.Steps.{edgeOf, childShape, grow, make, step, steps};
+ghost use Rattle.rules.specs.Steps.{childShape, grow, make, step, steps};
 ghost use Rattle.rules.specs.Placing.{stepIn, Places, Passes};
 ghost use Rattle.theorems.specs.Facts.{Sound};
 ghost use Rattle.theorems.specs.Child.{Legal};
@@ -34,34 +34,7 @@ const CONFIGURE: u32 = 1;
 
 const PROTOTYPE: u32 = 2;
 
-const PROPERTY_EDGE: u32 = 0;
-
-const PROTOTYPE_EDGE: u32 = 1;
-
 const SHARED: u32 = 1;
-
-// Insert and configure of a key are told apart by the shape that they start from, not by the edge.
-fn edge_of(parent: u32, t: StepRecord, child: u32) -> Edge
-    ensures { λ r. ⌜ r ≡ edgeOf parent (stepIn t) child ⌝ }
-{
-    let label = t.label;
-    if t.kind <= CONFIGURE {
-        return Edge {
-            parent,
-            kind: PROPERTY_EDGE,
-            label,
-            attributes: t.attributes,
-            child,
-        };
-    }
-    Edge {
-        parent,
-        kind: PROTOTYPE_EDGE,
-        label,
-        attributes: 0,
-        child,
-    }
-}
 
 fn child_shape(parent: u32, s: Shape, t: StepRecord, table: u32) -> Shape
     requires { ⌜ s .transitions ≤ 1024 ⌝ }

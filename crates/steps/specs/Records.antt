@@ -3,10 +3,10 @@
 use mathlib.Core.List.{List, [], _∷_, map}
 use mathlib.Core.Path.{_≡_, refl, ap}
 use Prim.Native.Nat.{ℕ, zero, suc, _+_, _-_, _*_, _/_, _<_, _≤_}
-use native.Mathlib.Nat.{mul-zero, not-suc-le-zero, le-of-suc-le-suc}
+use native.Mathlib.Nat.{not-suc-le-zero, le-of-suc-le-suc}
 use native.Mathlib.Omega.{arith}
 use borrow.Rule.Slice.PartMut.{midOf, putMid}
-use lib.ListN.{length, getD, set, drop}
+use lib.ListN.{length, getD, set, drop, drop-of-length-le, length-map}
 use Rattle.store.specs.Rows.{mul-suc-left}
 use Rattle.store.specs.Spots.{part-lent, mid-past, put-past}
 use Rattle.rules.specs.declared.StepRecord.{StepRecord}
@@ -87,3 +87,6 @@ steps-from ws i h = go (records ws) i h
     go [] i h = absurd (not-suc-le-zero h)
     go (t ∷ ts) zero h = refl
     go (t ∷ ts) (suc i) h = go ts i (le-of-suc-le-suc h)
+
+pub steps-end : (ws : List ℕ) {i : ℕ} → length (records ws) ≤ i → drop i (stepsIn ws) ≡ []
+steps-end ws {i} end = drop-of-length-le (stepsIn ws) {i = i} (rw (length-map (records ws) stepIn) end)

@@ -2,7 +2,7 @@
 -- Assumes nothing.
 use mathlib.Core.Bool.{Bool, true, false, not}
 use mathlib.Core.List.{List, [], _∷_, map}
-use mathlib.Core.Path.{_≡_, _∙_, ap, fun-ext}
+use mathlib.Core.Path.{_≡_, _∙_, ap, ap₂, fun-ext}
 use Prim.Native.Nat.{ℕ, suc, _+_, _-_, _≤_}
 use native.Mathlib.Omega.{arith}
 use lib.Dec.{eqb}
@@ -14,6 +14,8 @@ use Rattle.store.specs.Layout.{parse}
 use Rattle.store.specs.Image.{Becomes, and-then}
 use Rattle.store.specs.declared.Limits.{Limits}
 use Rattle.rules.specs.Sweep.{sweepShapes, sweepTables, sweepEdge, sweptTo, reached, swept, inUse}
+use Rattle.rules.specs.Calls.{Freed, Yes, perform, sweep}
+use Rattle.rules.specs.Replies.{Answers}
 use Rattle.theorems.specs.Facts.{Sound}
 use Rattle.theorems.specs.SweepLaws.{shapes-freed, tables-freed}
 use Rattle.theorems.specs.HeldChains.{swept-on-chain}
@@ -97,3 +99,11 @@ module _
         let w = swept-on-chain m sound in
         difference freeTable (m .tables) (swept m .tables) _ (ap (λ (l : Limits). l .T) (w .limits))
         (tables-freed w) f (g ∙ ap (λ (j : Model). length (keep freeTable (j .tables))) (b .parsed))
+
+    -- "It answers how many shapes and tables it freed."
+    pub sweep-answers : {shapes tables : ℕ}
+        → shapes ≡ inUse freeShape (m .shapes) - inUse freeShape (swept m .shapes)
+        → tables ≡ inUse freeTable (m .tables) - inUse freeTable (swept m .tables)
+        → Answers start end (perform m sweep) (Yes (Freed shapes tables))
+    unfolding perform
+    sweep-answers s t = (b, ap₂ (λ (x y : ℕ). Yes (Freed x y)) s t)

@@ -189,7 +189,7 @@ set-good k a e low h = go (isKey k e) refl
     go true q = both-and (rw (eqb-true (e .key) k q) at (and-both (goodKey (e .key)) h .0)) low
     go false q = h
 
-has-configured : (j k a : ℕ) (es : List Entry) → has j (configured es k a) ≡ has j es
+pub has-configured : (j k a : ℕ) (es : List Entry) → has j (configured es k a) ≡ has j es
 has-configured j k a [] = refl
 has-configured j k a (e ∷ es) = rw (set-key k a e, has-configured j k a es)
 

@@ -6,12 +6,13 @@ use mathlib.Core.Logic.{_⊎_, inl, inr, _≢_}
 use mathlib.Core.Path.{_≡_, refl, ap}
 use Prim.Native.Nat.{ℕ, _+_, _≤_}
 use borrow.Author.Tests.{eqb-true}
+use native.Mathlib.Omega.{arith}
 use lib.Dec.{eqb}
 use lib.ListN.{length}
 use Rattle.store.specs.Model.{Table, free, used, Model, noCounters, noShape, noEdge, freeShape, freeTable}
 use Rattle.store.specs.Model.{freeEdge, shapeAt, tableAt, edgeAt, entriesOf}
-use Rattle.store.specs.Image.{Place}
 use Rattle.store.specs.PlaceLaws.{at-inside}
+use Rattle.store.specs.Image.{Place}
 use Rattle.store.specs.ListLaws.{Decided, and-both, both-and, either}
 use Rattle.store.specs.declared.Shape.{Shape}
 use Rattle.store.specs.declared.Entry.{Entry}
@@ -140,6 +141,12 @@ used-place-inside m n u =
     let inside = at-inside freeShape (m .shapes) n noShape refl u in
     record { low = inside .0; high = inside .1 }
 
+pub used-table-inside : (m : Model) (t : ℕ) → freeTable (tableAt m t) ≡ false → Place (length (m .tables)) t
+unfolding tableAt
+used-table-inside m t u =
+    let inside = at-inside freeTable (m .tables) t free refl u in
+    record { low = inside .0; high = inside .1 }
+
 pub used-table : (t : Table) → freeTable t ≡ false → t ≡ used (entriesOf t)
 used-table free e = absurd (true≢false e)
 used-table (used es) e = refl
@@ -156,3 +163,17 @@ transitions-child {s} w h = go (w .state) (either (eqb (s .previous) 0))
 
 pub child-shared : (s : Shape) → isChild s ≡ true → shared s ≡ true
 child-shared s c = and-both (shared s) c .0
+
+-- ## What a shape in use has
+
+module _ (m : Model) (sound : Sound m) (n : ℕ) (u : Used m n) where
+  pub table-inside : Place (length (m .tables)) (shapeAt m n .table)
+  table-inside = used-table-inside m (shapeAt m n .table) (sound .shapes n u .tableUsed)
+
+  pub keys-fit : shapeAt m n .properties ≤ m .K
+  keys-fit =
+      let s = shapeAt m n in
+      let its = used-table (tableAt m (s .table)) (sound .shapes n u .tableUsed) in
+      let most = sound .tables (s .table) (tableOf m s) its .room in
+      let few = sound .shapes n u .countFits in
+      omega arith

@@ -88,17 +88,21 @@ same-step n kind t x es l fits may its =
     go (prototype p) false true kind label attributes fits may its = absurd (omega arith)
     go (prototype p) false false kind label attributes fits may its = cc
 
+module _ (m : Model) (sound : Sound m) (n : ℕ) (u : Used m n) (t : Step) where
+  -- An edge for the step is in use.
+  pub edge-in-use : (e : ℕ) → Alike (edgeOf n t 0) (edgeAt m e) → freeEdge (edgeAt m e) ≡ false
+  edge-in-use e l = go (either (freeEdge (edgeAt m e)))
+    where
+      go : Decided (freeEdge (edgeAt m e)) → freeEdge (edgeAt m e) ≡ false
+      go (inl f) = absurd (edge-not-free m n t u (l ∙ ap deadened (sound .freeEdges e f)))
+      go (inr v) = v
+
 module _ (m : Model) (sound : Sound m) (n : ℕ) (t : Step) (legal : Legal m n t) where
   is-used : Used m n
   is-used = shared-used (shapeAt m n) (legal .isShared)
 
-  -- An edge for the step is in use.
   edge-used : (e : ℕ) → Alike (edgeOf n t 0) (edgeAt m e) → freeEdge (edgeAt m e) ≡ false
-  edge-used e l = go (either (freeEdge (edgeAt m e)))
-    where
-      go : Decided (freeEdge (edgeAt m e)) → freeEdge (edgeAt m e) ≡ false
-      go (inl f) = absurd (edge-not-free m n t is-used (l ∙ ap deadened (sound .freeEdges e f)))
-      go (inr u) = u
+  edge-used = edge-in-use m sound n is-used t
 
   live-took : (e : ℕ) → Alike (edgeOf n t 0) (edgeAt m e) → edgeAt m e .child ≢ 0
       → Took m n t (m, edgeAt m e .child)

@@ -62,11 +62,11 @@ module _ (m : Model) (sound : Sound m) (n : ℕ) (isUnique : unique (shapeAt m n
   abbrev es : List Entry
   es = entries m (shapeAt m n)
 
-  is-used : Used m n
+  pub is-used : Used m n
   is-used = unique-used s isUnique
 
   -- All its table's entries are its own.
-  whole : es ≡ tableOf m s
+  pub whole : es ≡ tableOf m s
   whole =
       let all = sound .shapes n is-used .uniqueWhole isUnique in
       take-all (s .properties) (tableOf m s) (omega arith)

@@ -1,6 +1,6 @@
 -- `sweep::sweep` meets its contract. Assumes nothing.
 use borrow.Author.Needs.{needs}
-use Rattle.sweep.specs.Freed.{freed-shapes, freed-tables}
+use Rattle.sweep.specs.Freed.{freed-shapes, freed-tables, sweep-answers}
 use Rattle.sweep.proofs.sweep.Statement.{statement}
 use Rattle.sweep.proofs.sweep.Tie as tie
 
@@ -52,13 +52,10 @@ returns c =
     let free-shapes = earlier .before .before .before .before .free-shapes in
     let free-shapes2 = c .before .before .free-shapes2 in
     let free-tables = c .before .before .before .before .before .before .before .before .free-tables in
-    let free-tables2 = c .free-tables2 in (
-      free-unreached .ensures,
-      (
-        freed-shapes (pre .1) (free-unreached .ensures) (free-shapes .ensures) (free-shapes2 .ensures) .freed,
-        freed-tables (pre .1) (free-unreached .ensures) (free-tables .ensures) (free-tables2 .ensures) .freed,
-      ),
-    )
+    let free-tables2 = c .free-tables2 in
+    let shapes = freed-shapes (pre .1) (free-unreached .ensures) (free-shapes .ensures) (free-shapes2 .ensures) in
+    let tables = freed-tables (pre .1) (free-unreached .ensures) (free-tables .ensures) (free-tables2 .ensures) in
+    sweep-answers (pre .1) (free-unreached .ensures) (shapes .freed) (tables .freed)
 
 pub sweep-spec : {M : Type 1} → statement M
 sweep-spec =

@@ -3,9 +3,9 @@ use mathlib.Core.Path.{sym, _∙_}
 use mathlib.Core.Logic.{inl, inr}
 use borrow.Author.Needs.{needs}
 use Rattle.store.specs.Layout.{parse}
+use Rattle.theorems.specs.Facts.{used-place-inside}
 use Rattle.sweep.specs.Marks.{unmarked, unmarked-less}
 use Rattle.sweep.specs.Walks.{Walk, walk-start, walk-on, walk-end, standing-inside, standing-on-chain}
-use Rattle.theorems.specs.Facts.{used-place-inside}
 use Rattle.sweep.proofs.walks.walk.Statement.{statement}
 use Rattle.sweep.proofs.walks.walk.Tie as tie
 

@@ -1,0 +1,167 @@
+-- What questions answer: the laws of each way out.
+-- Assumes nothing.
+use mathlib.Core.Bool.{true, false}
+use mathlib.Core.List.{List, _++_}
+use mathlib.Core.Path.{_≡_, refl, ap₂}
+use Prim.Native.Nat.{ℕ, _≤_, _<_}
+use borrow.Author.Tests.{eq-eqb, ne-eqb, lt-ltb, le-ltb}
+use lib.ListN.{length, take, drop}
+use Rattle.store.specs.Model.{Model, shapeAt, tableAt, used}
+use Rattle.store.specs.Layout.{parse}
+use Rattle.store.specs.Image.{Formed, Place, unchanged}
+use Rattle.store.specs.declared.Shape.{Shape}
+use Rattle.store.specs.declared.Entry.{Entry}
+use Rattle.rules.specs.declared.Refusal.the-variants.{BadKey, NoShape, OutShort}
+use Rattle.rules.specs.Numbers.{goodKey}
+use Rattle.rules.specs.Shapes.{entries, tableOf}
+use Rattle.rules.specs.Refusals.{Got, ok, refused}
+use Rattle.rules.specs.Sweep.{keyList}
+use Rattle.rules.specs.Calls.{Answer, Given, Freed, Done, Found, NotFound, Listed, Number, No, Yes, unheld}
+use Rattle.rules.specs.Calls.{perform}
+use Rattle.rules.specs.Calls.{lookup, keysInto, prototypeOf, isShared, transitionsOf, propertiesOf}
+use Rattle.rules.specs.Replies.{Answers}
+use Rattle.theorems.specs.Facts.{ShapeSound, Sound, used-table, used-table-inside}
+use Rattle.theorems.specs.Changes.{may-act}
+use Rattle.property_table.specs.Slotted.{Slotted, good-slotted}
+use Rattle.property_table.specs.Copies.{entriesIn}
+use Rattle.property_table.specs.Lookup.{lookedUp, looked-held, looked-absent}
+use Rattle.property_table.specs.declared.Property.{Property}
+use Rattle.property_table.specs.declared.OptionalProperty.the-variants.{At, Nothing}
+
+-- The lent slice after a list is asked for: a refusal leaves it as it was.
+abbrev pub outAfter : List ℕ → Got (Model × Answer) → List ℕ
+outAfter out (ok (m, Given n x t)) = out
+outAfter out (ok (m, Freed s t)) = out
+outAfter out (ok (m, Done)) = out
+outAfter out (ok (m, Found s a)) = out
+outAfter out (ok (m, NotFound)) = out
+outAfter out (ok (m, Listed n ks)) = ks
+outAfter out (ok (m, Number n)) = out
+outAfter out (refused r) = out
+
+-- ## The table of a shape in use
+
+-- What a reader of its entries needs.
+pub record Readable (m : Model) (s : Shape) : Type 0 where
+  pub place : Place (length (m .tables)) (s .table)
+  pub count : s .properties ≤ length (tableOf m s)
+  pub slotted : Slotted (tableOf m s)
+
+pub readable : {m : Model} {s : Shape} → Sound m → (n : ℕ) → unheld m n ≡ false → s ≡ shapeAt m n
+    → Readable m s
+readable {m} {s} sound n may read = rw read record {
+  place = used-table-inside m (there .table) (its .tableUsed);
+  count = its .countFits;
+  slotted = good-slotted (tableOf m there) (sound .tables (there .table) (tableOf m there) inUse .good);
+}
+  where
+    there : Shape
+    there = shapeAt m n
+
+    its : ShapeSound m n there
+    its = sound .shapes n (may-act m sound n may .isUsed)
+
+    inUse : tableAt m (there .table) ≡ used (tableOf m there)
+    inUse = used-table (tableAt m (there .table)) (its .tableUsed)
+
+-- ## Refusals
+
+module _ (ws : List ℕ) (n : ℕ) where
+  abbrev m : Model
+  m = parse ws
+
+  pub bad-key : (k : ℕ) → goodKey k ≡ false → Answers ws ws (perform m (lookup n k)) (No BadKey)
+  unfolding perform
+  bad-key k bad = rw bad (refl, refl)
+
+  module _ (none : unheld m n ≡ true) where
+    pub lookup-refused : (k : ℕ) → goodKey k ≡ true → Answers ws ws (perform m (lookup n k)) (No NoShape)
+    unfolding perform
+    lookup-refused k good = rw (good, none) (refl, refl)
+
+    pub keys-refused : (out : List ℕ)
+        → Answers ws ws (perform m (keysInto n out)) (No NoShape)
+        × (out ≡ outAfter out (perform m (keysInto n out)))
+    unfolding perform
+    keys-refused out = rw none ((refl, refl), refl)
+
+    pub prototype-refused : Answers ws ws (perform m (prototypeOf n)) (No NoShape)
+    unfolding perform
+    prototype-refused = rw none (refl, refl)
+
+    pub is-shared-refused : Answers ws ws (perform m (isShared n)) (No NoShape)
+    unfolding perform
+    is-shared-refused = rw none (refl, refl)
+
+    pub transitions-refused : Answers ws ws (perform m (transitionsOf n)) (No NoShape)
+    unfolding perform
+    transitions-refused = rw none (refl, refl)
+
+    pub properties-refused : Answers ws ws (perform m (propertiesOf n)) (No NoShape)
+    unfolding perform
+    properties-refused = rw none (refl, refl)
+
+-- ## Answers
+
+module _ {ws : List ℕ} (formed : Formed ws) (n : ℕ) (may : unheld (parse ws) n ≡ false) where
+  abbrev model : Model
+  model = parse ws
+
+  module _ (k : ℕ) (good : goodKey k ≡ true) where
+    abbrev es : List Entry
+    es = entries model (shapeAt model n)
+
+    pub lookup-finds : {p : Property} → lookedUp k 0 es ≡ At p
+        → let s = p .slot in
+        Answers ws ws (perform model (lookup n k)) (Yes (Found (s .index .0) (s .attributes .0)))
+    unfolding perform
+    lookup-finds looked =
+        let h = looked-held {k = k} {es = es} looked in
+        rw (good, may, h .answer, h .slot) (unchanged formed, refl)
+
+    pub lookup-finds-nothing : lookedUp k 0 es ≡ Nothing
+        → Answers ws ws (perform model (lookup n k)) (Yes NotFound)
+    unfolding perform
+    lookup-finds-nothing looked =
+        let h = looked-absent {k = k} {es = es} looked in
+        rw (good, may, h .answer) (unchanged formed, refl)
+
+  module _ {s : Shape} (read : s ≡ shapeAt model n) where
+    module _ (out : List ℕ) where
+      abbrev ks : List ℕ
+      ks = keyList (take (s .properties) (entriesIn ws (s .table)))
+
+      pub out-short : length out < length ks
+          → Answers ws ws (perform model (keysInto n out)) (No OutShort)
+          × (out ≡ outAfter out (perform model (keysInto n out)))
+      unfolding perform
+      out-short short = rw (may, ← read, lt-ltb (length out) (length ks) short) ((refl, refl), refl)
+
+      pub keys-listed : length ks ≤ length out → {count : ℕ} {after : List ℕ} → count ≡ length ks
+          → after ≡ ks ++ drop (length ks) out
+          → Answers ws ws (perform model (keysInto n out)) (Yes (Listed count after))
+          × (after ≡ outAfter out (perform model (keysInto n out)))
+      unfolding perform
+      keys-listed enough many written =
+          rw (may, ← read, le-ltb (length out) (length ks) enough)
+          ((unchanged formed, ap₂ (λ (c : ℕ) (o : List ℕ). Yes (Listed c o)) many written), written)
+
+    pub prototype-told : Answers ws ws (perform model (prototypeOf n)) (Yes (Number (s .prototype)))
+    unfolding perform
+    prototype-told = rw (may, ← read) (unchanged formed, refl)
+
+    pub shared-told : s .state ≡ 1 → Answers ws ws (perform model (isShared n)) (Yes (Number 1))
+    unfolding perform
+    shared-told z = rw (may, ← read, eq-eqb (s .state) 1 z) (unchanged formed, refl)
+
+    pub unique-told : (s .state ≡ 1 → ⊥) → Answers ws ws (perform model (isShared n)) (Yes (Number 0))
+    unfolding perform
+    unique-told z = rw (may, ← read, ne-eqb (s .state) 1 z) (unchanged formed, refl)
+
+    pub transitions-told : Answers ws ws (perform model (transitionsOf n)) (Yes (Number (s .transitions)))
+    unfolding perform
+    transitions-told = rw (may, ← read) (unchanged formed, refl)
+
+    pub properties-told : Answers ws ws (perform model (propertiesOf n)) (Yes (Number (s .properties)))
+    unfolding perform
+    properties-told = rw (may, ← read) (unchanged formed, refl)

@@ -1,0 +1,145 @@
+// Questions of a held shape: no word of the image is written.
+use holds::is_held;
+use property_table::OptionalProperty;
+use property_table::key_count;
+use rules::KeysReply;
+use rules::LookupReply;
+use rules::NumberReply;
+use rules::Refusal;
+use rules::good_key;
+use store::image::get_shape;
+use store::rows::wide;
+ghost use mathlib.Core.Path.{_≡_};
+ghost use mathlib.Core.Bool.{false};
+ghost use Rattle.store.specs.Model.{shapeAt};
+ghost use Rattle.store.specs.Layout.{parse};
+ghost use Rattle.store.specs.Image.{Formed};
+ghost use Rattle.rules.specs.Shapes.{entries};
+ghost use Rattle.rules.specs.Calls.{unheld, perform, lookup, keysInto, prototypeOf, isShared};
+ghost use Rattle.rules.specs.Calls.{transitionsOf};
+ghost use Rattle.rules.specs.Calls.{propertiesOf};
+ghost use Rattle.rules.specs.Replies.{Answers, lookupReply, keysReply, numberReply};
+ghost use Rattle.theorems.specs.Facts.{Sound};
+ghost use Rattle.property_table.specs.Lookup.{lookedUp};
+ghost use Rattle.questions.specs.Asked.{outAfter};
+
+// A held shape's own keys are the first of its table.
+pub fn property(image: &[u32], n: u32, key: u32) -> OptionalProperty
+    requires { ⌜ Formed (now image) ⌝ }
+    requires { ⌜ Sound (parse (now image)) ⌝ }
+    requires { ⌜ unheld (parse (now image)) n ≡ false ⌝ }
+    ensures { λ r. ⌜
+        r ≡ lookedUp key 0 (entries (parse (now (image .entry))) (shapeAt (parse (now (image .entry))) n))
+        ⌝ }
+{
+    let s = get_shape(image, n);
+    property_table::lookup(image, s.table, s.properties, key)
+}
+
+// "Lookup answers the slot or Nothing."
+pub fn lookup(image: &[u32], n: u32, key: u32) -> LookupReply
+    requires { ⌜ Formed (now image) ⌝ }
+    requires { ⌜ Sound (parse (now image)) ⌝ }
+    ensures { λ r. ⌜
+        Answers (now (image .entry)) (now (image .entry))
+        (perform (parse (now (image .entry))) (lookup n key)) (lookupReply r)
+        ⌝ }
+{
+    if !good_key(key) {
+        return LookupReply::Refused(Refusal::BadKey);
+    }
+    if !is_held(image, n) {
+        return LookupReply::Refused(Refusal::NoShape);
+    }
+    match property(image, n, key) {
+        OptionalProperty::At(p) => {
+            let slot = p.slot;
+            LookupReply::Finds(slot)
+        }
+        OptionalProperty::Nothing => LookupReply::FindsNothing,
+    }
+}
+
+// "written at the front of a lent slice, the rest of it unchanged"
+pub fn keys(image: &[u32], n: u32, out: &mut [u32]) -> KeysReply
+    requires { ⌜ Formed (now image) ⌝ }
+    requires { ⌜ Sound (parse (now image)) ⌝ }
+    ensures { λ r. ⌜
+        Answers (now (image .entry)) (now (image .entry))
+        (perform (parse (now (image .entry))) (keysInto n (now (out .entry))))
+        (keysReply (now (out .exit)) r)
+        ⌝ }
+    ensures { λ _. ⌜
+        now (out .exit)
+        ≡ outAfter (now (out .entry)) (perform (parse (now (image .entry))) (keysInto n (now (out .entry))))
+        ⌝ }
+{
+    if !is_held(image, n) {
+        return KeysReply::Refused(Refusal::NoShape);
+    }
+    let s = get_shape(image, n);
+    if wide(key_count(image, s.table, s.properties)) > out.len() {
+        return KeysReply::Refused(Refusal::OutShort);
+    }
+    KeysReply::Lists(property_table::keys(image, s.table, s.properties, out))
+}
+
+pub fn prototype(image: &[u32], n: u32) -> NumberReply
+    requires { ⌜ Formed (now image) ⌝ }
+    ensures { λ r. ⌜
+        Answers (now (image .entry)) (now (image .entry))
+        (perform (parse (now (image .entry))) (prototypeOf n)) (numberReply r)
+        ⌝ }
+{
+    if !is_held(image, n) {
+        return NumberReply::Refused(Refusal::NoShape);
+    }
+    let s = get_shape(image, n);
+    NumberReply::Is(s.prototype)
+}
+
+// 1 for a shared shape, 0 for a unique.
+pub fn is_shared(image: &[u32], n: u32) -> NumberReply
+    requires { ⌜ Formed (now image) ⌝ }
+    ensures { λ r. ⌜
+        Answers (now (image .entry)) (now (image .entry))
+        (perform (parse (now (image .entry))) (isShared n)) (numberReply r)
+        ⌝ }
+{
+    if !is_held(image, n) {
+        return NumberReply::Refused(Refusal::NoShape);
+    }
+    let s = get_shape(image, n);
+    if s.state == 1 {
+        return NumberReply::Is(1);
+    }
+    NumberReply::Is(0)
+}
+
+pub fn transition_count(image: &[u32], n: u32) -> NumberReply
+    requires { ⌜ Formed (now image) ⌝ }
+    ensures { λ r. ⌜
+        Answers (now (image .entry)) (now (image .entry))
+        (perform (parse (now (image .entry))) (transitionsOf n)) (numberReply r)
+        ⌝ }
+{
+    if !is_held(image, n) {
+        return NumberReply::Refused(Refusal::NoShape);
+    }
+    let s = get_shape(image, n);
+    NumberReply::Is(s.transitions)
+}
+
+pub fn property_count(image: &[u32], n: u32) -> NumberReply
+    requires { ⌜ Formed (now image) ⌝ }
+    ensures { λ r. ⌜
+        Answers (now (image .entry)) (now (image .entry))
+        (perform (parse (now (image .entry))) (propertiesOf n)) (numberReply r)
+        ⌝ }
+{
+    if !is_held(image, n) {
+        return NumberReply::Refused(Refusal::NoShape);
+    }
+    let s = get_shape(image, n);
+    NumberReply::Is(s.properties)
+}

@@ -1,0 +1,2 @@
+pub mod StepsFrom
+pub mod WalkBack

@@ -1,0 +1,3 @@
+pub mod OwnTable
+pub mod Replacing
+pub mod Rules
