@@ -13,7 +13,6 @@ use Rattle.store.specs.Lists.{lowest}
 use Rattle.store.specs.Model.{Table, Model, free, used, noEntry, freeTable, tableAt, putTable}
 use Rattle.store.specs.Layout.{parse}
 use Rattle.store.specs.Image.{Formed, Place, unchanged}
-use Rattle.store.specs.PlaceLaws.{at-inside}
 use Rattle.store.specs.ListLaws.{and-both, not-both}
 use Rattle.store.specs.declared.Shape.{Shape}
 use Rattle.store.specs.declared.Entry.{Entry}
@@ -25,7 +24,7 @@ use Rattle.rules.specs.Placing.{Passes, Places}
 use Rattle.rules.specs.Steps.{Step, insert, configure, prototype, edgeAttributes, mayStep, added, Placed}
 use Rattle.rules.specs.Steps.{copyTo, childTable}
 use Rattle.rules.specs.Sound.{distinct}
-use Rattle.theorems.specs.Facts.{GoodTable}
+use Rattle.theorems.specs.Facts.{GoodTable, used-table-inside}
 use Rattle.theorems.specs.Entries.{keys, good-keys, attributes-take}
 use Rattle.theorems.specs.Taken.{bind-passed, place-passed, place-lowest}
 use Rattle.property_table.specs.Slotted.{Slotted, good-slotted}
@@ -73,10 +72,7 @@ copy {m} {g} {es} {to} rule (y, e) its =
 
 module _ {m : Model} {s : Shape} {t : Step} (p : Parent m s t) where
   pub its-place : Place (length (m .tables)) (s .table)
-  unfolding tableAt
-  its-place =
-      let (low, high) = at-inside freeTable (m .tables) (s .table) free refl (p .inUse) in
-      record { low = low; high = high }
+  its-place = used-table-inside m (s .table) (p .inUse)
 
   pub its-slots : Slotted (tableOf m s)
   its-slots = good-slotted (tableOf m s) (p .good .good)

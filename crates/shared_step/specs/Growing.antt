@@ -1,6 +1,6 @@
 -- A child that is made: the places it takes, and the words that code writes for it.
 -- Assumes nothing.
-use mathlib.Core.Bool.{_&&_}
+use mathlib.Core.Bool.{Bool, true, _&&_}
 use mathlib.Core.List.{List}
 use mathlib.Core.Logic.{_≢_}
 use mathlib.Core.Path.{_≡_, refl, sym, _∙_, ap, ap₂}
@@ -15,7 +15,6 @@ use Rattle.store.specs.Model.{Model, noShape, noEdge, freeShape, freeEdge, shap
 use Rattle.store.specs.Model.{putEdge}
 use Rattle.store.specs.Layout.{parse}
 use Rattle.store.specs.Image.{Formed, Place, Becomes, and-then}
-use Rattle.store.specs.PlaceLaws.{at-inside}
 use Rattle.store.specs.ListLaws.{and-both, both-and, not-both}
 use Rattle.store.specs.declared.Shape.{Shape}
 use Rattle.store.specs.declared.Edge.{Edge}
@@ -28,7 +27,7 @@ use Rattle.rules.specs.Settled.{guard-passed}
 use Rattle.rules.specs.Placing.{Passes, Places, places, placed}
 use Rattle.rules.specs.Steps.{Step, insert, configure, prototype, edgeOf, edgeAttributes, added, Placed}
 use Rattle.rules.specs.Steps.{childTable, childShape, grow}
-use Rattle.theorems.specs.Facts.{Sound, shared-used, used-table}
+use Rattle.theorems.specs.Facts.{Sound, shared-used, used-place-inside, used-table}
 use Rattle.theorems.specs.Taken.{bind-passed, place-passed, place-lowest}
 use Rattle.theorems.specs.Child.{Legal}
 use Rattle.child_table.specs.Parents.{Parent}
@@ -41,11 +40,8 @@ Ready ws n t g = Formed ws × (Sound (parse ws) × (Legal (parse ws) n t × Pass
 
 pub shape-place : {ws : List ℕ} {n : ℕ} {t : Step} {g : Got Placed} → Ready ws n t g
     → Place (length (parse ws .shapes)) n
-unfolding shapeAt
 shape-place {ws} {n} (f, (sound, (legal, passes))) =
-    let u = shared-used (shapeAt (parse ws) n) (legal .isShared) in
-    let (low, high) = at-inside freeShape (parse ws .shapes) n noShape refl u in
-    record { low = low; high = high }
+    used-place-inside (parse ws) n (shared-used (shapeAt (parse ws) n) (legal .isShared))
 
 -- A child that is not refused stands at c.
 record Grows (m : Model) (n : ℕ) (t : Step) (c : ℕ) : Type 0 where
@@ -88,11 +84,12 @@ grows m n t {c} (y, e) its =
       gave = e ∙ sym (rw free at (d .below));
     }
 
+byte-low : (k a : ℕ) (b : Bool) → (goodKey k && goodAttributes a && b) ≡ true → a ≤ 31
+byte-low k a b h = leb-true a 31 (and-both (goodKey k) (and-both (goodKey k && goodAttributes a) h .0) .1)
+
 label-low : (m : Model) (n : ℕ) (t : Step) → Legal m n t → edgeAttributes t ≤ 31
-label-low m n (insert k a) legal =
-    leb-true a 31 (and-both (goodKey k) (and-both (goodKey k && goodAttributes a) (legal .label) .0) .1)
-label-low m n (configure k a) legal =
-    leb-true a 31 (and-both (goodKey k) (and-both (goodKey k && goodAttributes a) (legal .label) .0) .1)
+label-low m n (insert k a) legal = byte-low k a _ (legal .label)
+label-low m n (configure k a) legal = byte-low k a _ (legal .label)
 label-low m n (prototype p) legal = omega arith
 
 parent : (m : Model) → Sound m → (n : ℕ) (t : Step) → Legal m n t → {c : ℕ} → Grows m n t c

@@ -13,10 +13,10 @@ use Rattle.rules.specs.Placing.{stepIn, Passes, Places, places, placed}
 use Rattle.rules.specs.Steps.{step, steps}
 use Rattle.theorems.specs.Facts.{Sound}
 use Rattle.theorems.specs.Taken.{bind-passed}
-use Rattle.theorems.specs.Child.{Legal}
 use Rattle.theorems.specs.Stepped.{step-took}
 use Rattle.plan.specs.PlanRight.{LegalSteps}
 use Rattle.steps.specs.Records.{records, noStep, stepsIn, steps-from}
+use Rattle.shared_step.specs.Growing.{Ready}
 
 -- A loop over the steps in ws, at the i-th, has reached the shape at p.
 pub record Walking (before : List ℕ) (n : ℕ) (ws : List ℕ) (start i : ℕ) (now : List ℕ) (p : ℕ) : Type 0 where
@@ -54,8 +54,7 @@ module _ {before : List ℕ} {n : ℕ} {ws : List ℕ} {start : ℕ} where
           (b .result, b .gave)
 
       -- The next step may be taken,
-      pub walk-ready : Formed now
-          × (Sound (parse now) × (Legal (parse now) p (stepIn t) × Passes (step (parse now) p (stepIn t))))
+      pub walk-ready : Ready now p (stepIn t) (step (parse now) p (stepIn t))
       walk-ready = (w .so-far .formed, (w .sound, (all-legal .0, this-passes)))
 
       -- and then there is one less.
