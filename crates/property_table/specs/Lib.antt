@@ -3,3 +3,4 @@ pub mod Lookup
 pub mod Copies
 pub mod OneKey
 pub mod KeyLists
+pub mod Readable

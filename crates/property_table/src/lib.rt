@@ -7,6 +7,7 @@ use store::Entry;
 use store::image::append_entry;
 use store::image::entry_count;
 use store::image::get_entry;
+use store::image::get_shape;
 use store::image::set_entry;
 use store::image::start_table;
 ghost use mathlib.Core.Path.{_≡_};
@@ -14,12 +15,13 @@ ghost use mathlib.Core.Bool.{true, false};
 ghost use mathlib.Core.List.{_++_};
 ghost use Prim.Native.Nat.{_+_, _-_, _≤_, _<_};
 ghost use lib.ListN.{length, take, drop};
-ghost use Rattle.store.specs.Model.{tableAt, putTable, freeTable, free, used};
+ghost use Rattle.store.specs.Model.{shapeAt, tableAt, putTable, freeTable, free, used};
 ghost use Rattle.store.specs.Layout.{parse};
 ghost use Rattle.store.specs.Image.{Formed, Place, Becomes};
-ghost use Rattle.rules.specs.Shapes.{appended, configured, without, laid};
+ghost use Rattle.rules.specs.Shapes.{entries, appended, configured, without, laid};
 ghost use Rattle.rules.specs.Sound.{distinct};
 ghost use Rattle.rules.specs.Sweep.{keyList};
+ghost use Rattle.theorems.specs.Facts.{Used, Sound};
 ghost use Rattle.theorems.specs.Entries.{keys};
 ghost use Rattle.property_table.specs.Slotted.{Slotted, slotIn, slotBefore};
 ghost use Rattle.property_table.specs.Lookup.{lookedUp};
@@ -69,6 +71,19 @@ pub fn lookup(image: &[u32], table: u32, count: u32, key: u32) -> OptionalProper
         at += 1;
     }
     OptionalProperty::Nothing
+}
+
+// A shape's own keys are the first of its table.
+pub fn find(image: &[u32], n: u32, key: u32) -> OptionalProperty
+    requires { ⌜ Formed (now image) ⌝ }
+    requires { ⌜ Sound (parse (now image)) ⌝ }
+    requires { ⌜ Used (parse (now image)) n ⌝ }
+    ensures { λ r. ⌜
+        r ≡ lookedUp key 0 (entries (parse (now (image .entry))) (shapeAt (parse (now (image .entry))) n))
+        ⌝ }
+{
+    let s = get_shape(image, n);
+    lookup(image, s.table, s.properties, key)
 }
 
 fn last_slot(image: &[u32], table: u32) -> OptionalSlot

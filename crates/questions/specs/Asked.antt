@@ -6,23 +6,20 @@ use mathlib.Core.Path.{_≡_, refl, ap₂}
 use Prim.Native.Nat.{ℕ, _≤_, _<_}
 use borrow.Author.Tests.{eq-eqb, ne-eqb, lt-ltb, le-ltb}
 use lib.ListN.{length, take, drop}
-use Rattle.store.specs.Model.{Model, shapeAt, tableAt, used}
+use Rattle.store.specs.Model.{Model, shapeAt}
 use Rattle.store.specs.Layout.{parse}
-use Rattle.store.specs.Image.{Formed, Place, unchanged}
+use Rattle.store.specs.Image.{Formed, unchanged}
 use Rattle.store.specs.declared.Shape.{Shape}
 use Rattle.store.specs.declared.Entry.{Entry}
 use Rattle.rules.specs.declared.Refusal.the-variants.{BadKey, NoShape, OutShort}
 use Rattle.rules.specs.Numbers.{goodKey}
-use Rattle.rules.specs.Shapes.{entries, tableOf}
+use Rattle.rules.specs.Shapes.{entries}
 use Rattle.rules.specs.Refusals.{Got, ok, refused}
 use Rattle.rules.specs.Sweep.{keyList}
 use Rattle.rules.specs.Calls.{Answer, Given, Freed, Done, Found, NotFound, Listed, Number, No, Yes, unheld}
 use Rattle.rules.specs.Calls.{perform}
 use Rattle.rules.specs.Calls.{lookup, keysInto, prototypeOf, isShared, transitionsOf, propertiesOf}
 use Rattle.rules.specs.Replies.{Answers}
-use Rattle.theorems.specs.Facts.{ShapeSound, Sound, used-table, used-table-inside}
-use Rattle.theorems.specs.Changes.{may-act}
-use Rattle.property_table.specs.Slotted.{Slotted, good-slotted}
 use Rattle.property_table.specs.Copies.{entriesIn}
 use Rattle.property_table.specs.Lookup.{lookedUp, looked-held, looked-absent}
 use Rattle.property_table.specs.declared.Property.{Property}
@@ -38,31 +35,6 @@ outAfter out (ok (m, NotFound)) = out
 outAfter out (ok (m, Listed n ks)) = ks
 outAfter out (ok (m, Number n)) = out
 outAfter out (refused r) = out
-
--- ## The table of a shape in use
-
--- What a reader of its entries needs.
-pub record Readable (m : Model) (s : Shape) : Type 0 where
-  pub place : Place (length (m .tables)) (s .table)
-  pub count : s .properties ≤ length (tableOf m s)
-  pub slotted : Slotted (tableOf m s)
-
-pub readable : {m : Model} {s : Shape} → Sound m → (n : ℕ) → unheld m n ≡ false → s ≡ shapeAt m n
-    → Readable m s
-readable {m} {s} sound n may read = rw read record {
-  place = used-table-inside m (there .table) (its .tableUsed);
-  count = its .countFits;
-  slotted = good-slotted (tableOf m there) (sound .tables (there .table) (tableOf m there) inUse .good);
-}
-  where
-    there : Shape
-    there = shapeAt m n
-
-    its : ShapeSound m n there
-    its = sound .shapes n (may-act m sound n may .isUsed)
-
-    inUse : tableAt m (there .table) ≡ used (tableOf m there)
-    inUse = used-table (tableAt m (there .table)) (its .tableUsed)
 
 -- ## Refusals
 

@@ -1,6 +1,7 @@
 // Questions of a held shape: no word of the image is written.
 use holds::is_held;
 use property_table::OptionalProperty;
+use property_table::find;
 use property_table::key_count;
 use rules::KeysReply;
 use rules::LookupReply;
@@ -10,31 +11,14 @@ use rules::good_key;
 use store::image::get_shape;
 use store::rows::wide;
 ghost use mathlib.Core.Path.{_≡_};
-ghost use mathlib.Core.Bool.{false};
-ghost use Rattle.store.specs.Model.{shapeAt};
 ghost use Rattle.store.specs.Layout.{parse};
 ghost use Rattle.store.specs.Image.{Formed};
-ghost use Rattle.rules.specs.Shapes.{entries};
-ghost use Rattle.rules.specs.Calls.{unheld, perform, lookup, keysInto, prototypeOf, isShared};
+ghost use Rattle.rules.specs.Calls.{perform, lookup, keysInto, prototypeOf, isShared};
 ghost use Rattle.rules.specs.Calls.{transitionsOf};
 ghost use Rattle.rules.specs.Calls.{propertiesOf};
 ghost use Rattle.rules.specs.Replies.{Answers, lookupReply, keysReply, numberReply};
 ghost use Rattle.theorems.specs.Facts.{Sound};
-ghost use Rattle.property_table.specs.Lookup.{lookedUp};
 ghost use Rattle.questions.specs.Asked.{outAfter};
-
-// A held shape's own keys are the first of its table.
-pub fn property(image: &[u32], n: u32, key: u32) -> OptionalProperty
-    requires { ⌜ Formed (now image) ⌝ }
-    requires { ⌜ Sound (parse (now image)) ⌝ }
-    requires { ⌜ unheld (parse (now image)) n ≡ false ⌝ }
-    ensures { λ r. ⌜
-        r ≡ lookedUp key 0 (entries (parse (now (image .entry))) (shapeAt (parse (now (image .entry))) n))
-        ⌝ }
-{
-    let s = get_shape(image, n);
-    property_table::lookup(image, s.table, s.properties, key)
-}
 
 // "Lookup answers the slot or Nothing."
 pub fn lookup(image: &[u32], n: u32, key: u32) -> LookupReply
@@ -51,7 +35,7 @@ pub fn lookup(image: &[u32], n: u32, key: u32) -> LookupReply
     if !is_held(image, n) {
         return LookupReply::Refused(Refusal::NoShape);
     }
-    match property(image, n, key) {
+    match find(image, n, key) {
         OptionalProperty::At(p) => {
             let slot = p.slot;
             LookupReply::Finds(slot)

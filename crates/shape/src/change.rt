@@ -4,7 +4,7 @@ use holds::grant_placed;
 use holds::is_full;
 use holds::is_held;
 use property_table::OptionalProperty;
-use questions::property;
+use property_table::find;
 use rules::ChangeTransitionAction;
 use rules::Placement;
 use rules::Refusal;
@@ -106,7 +106,7 @@ pub fn change_attributes_transition(
     if !is_held(image, n) {
         return ShapeReply::Refused(Refusal::NoShape);
     }
-    match property(image, n, key) {
+    match find(image, n, key) {
         OptionalProperty::Nothing => ShapeReply::Refused(Refusal::Absent),
         OptionalProperty::At(p) => {
             let slot = p.slot;

@@ -4,7 +4,7 @@ use fresh::new_root;
 use fresh::new_unique;
 use holds::grant_placed;
 use property_table::OptionalProperty;
-use questions::property;
+use property_table::find;
 use rules::ChangeTransitionAction;
 use rules::ShapeReply;
 use store::image::get_shape;
@@ -42,7 +42,7 @@ fn has_key(image: &[u32], n: u32, key: u32) -> bool
         r ≡ has key (entries (parse (now (image .entry))) (shapeAt (parse (now (image .entry))) n))
         ⌝ }
 {
-    match property(image, n, key) {
+    match find(image, n, key) {
         OptionalProperty::At(_) => true,
         OptionalProperty::Nothing => false,
     }

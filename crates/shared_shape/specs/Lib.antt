@@ -1,1 +1,2 @@
 pub mod Transition
+pub mod Replays

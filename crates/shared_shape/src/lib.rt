@@ -3,7 +3,7 @@ use fresh::to_unique;
 use plan::Planned;
 use plan::plan_limited;
 use property_table::OptionalProperty;
-use property_table::lookup;
+use property_table::find;
 use rollback::change_steps;
 use rollback::removal_steps;
 use rules::Placement;
@@ -55,21 +55,21 @@ fn limited(image: &mut [u32], n: u32) -> Placement
 }
 
 // The steps from row `start` on: a refusal is found before anything is written.
-fn transition(image: &mut [u32], from: u32, steps: &[u32], start: usize) -> Placement
+fn transition(image: &mut [u32], from: u32, list: &[u32], start: usize) -> Placement
     requires { ⌜ Formed (now image) ⌝ }
     requires { ⌜ Sound (parse (now image)) ⌝ }
     requires { ⌜ SharedAt (parse (now image)) from ⌝ }
-    requires { ⌜ start ≤ length (records (now steps)) ⌝ }
-    requires { ⌜ LegalSteps (drop start (stepsIn (now steps))) (parse (now image)) from ⌝ }
+    requires { ⌜ start ≤ length (records (now list)) ⌝ }
+    requires { ⌜ LegalSteps (drop start (stepsIn (now list))) (parse (now image)) from ⌝ }
     ensures { λ r. ⌜
         Places (now (image .entry)) (now (image .exit))
-        (thenLimit (steps (drop start (stepsIn (now (steps .entry)))) (parse (now (image .entry))) from)) r
+        (thenLimit (steps (drop start (stepsIn (now (list .entry)))) (parse (now (image .entry))) from)) r
         ⌝ }
 {
-    match plan_limited(image, from, steps, start) {
+    match plan_limited(image, from, list, start) {
         Planned::Refused(r) => Placement::Refused(r),
         Planned::Passes(way) => {
-            let n = take_steps(image, way.place, steps, start + way.found);
+            let n = take_steps(image, way.place, list, start + way.found);
             limited(image, n)
         }
     }
@@ -177,8 +177,7 @@ fn width_stays(image: &[u32], n: u32, key: u32, attributes: SlotAttributes) -> b
         r ≡ sameWidth (attributesIn key (entriesAt (parse (now (image .entry))) n)) (attributes .0)
         ⌝ }
 {
-    let s = get_shape(image, n);
-    match lookup(image, s.table, s.properties, key) {
+    match find(image, n, key) {
         OptionalProperty::At(p) => {
             let slot = p.slot;
             let old = slot.attributes;

@@ -9,7 +9,7 @@ use property_table::append;
 use property_table::copy_changed;
 use property_table::copy_entries;
 use property_table::copy_without;
-use property_table::lookup;
+use property_table::find;
 use property_table::set_attributes_at_index;
 use rules::Placement;
 use rules::Refusal;
@@ -35,7 +35,6 @@ ghost use Rattle.rules.specs.Placing.{Places};
 ghost use Rattle.theorems.specs.Entries.{keys};
 ghost use Rattle.theorems.specs.Facts.{Sound};
 ghost use Rattle.property_table.specs.Copies.{entriesIn, Apart};
-ghost use Rattle.property_table.specs.Lookup.{lookedUp};
 ghost use Rattle.unique_shape.specs.Replacing.{keysCopied, CanCopy, InPlace};
 
 struct ChangedKey {
@@ -116,18 +115,6 @@ fn replace(image: &mut [u32], n: u32, kept: u32, prototype: u32, how: KeyCopy) -
             Placement::At(new.shape)
         }
     }
-}
-
-fn find(image: &[u32], n: u32, key: u32) -> OptionalProperty
-    requires { ⌜ Formed (now image) ⌝ }
-    requires { ⌜ Sound (parse (now image)) ⌝ }
-    requires { ⌜ unique (shapeAt (parse (now image)) n) ≡ true ⌝ }
-    ensures { λ r. ⌜
-        r ≡ lookedUp key 0 (entries (parse (now (image .entry))) (shapeAt (parse (now (image .entry))) n))
-        ⌝ }
-{
-    let s = get_shape(image, n);
-    lookup(image, s.table, s.properties, key)
 }
 
 pub fn insert_property_transition(

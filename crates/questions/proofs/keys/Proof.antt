@@ -1,6 +1,8 @@
 -- `questions::keys` meets its contract. Assumes nothing.
+use Rattle.theorems.specs.Changes.{may-act}
+use Rattle.property_table.specs.Readable.{readable}
 use Rattle.holds.specs.Granted.{not-held, may-name, held-place}
-use Rattle.questions.specs.Asked.{readable, keys-refused, out-short, keys-listed}
+use Rattle.questions.specs.Asked.{keys-refused, out-short, keys-listed}
 use borrow.Author.Needs.{needs}
 use Rattle.questions.proofs.keys.Statement.{statement}
 use Rattle.questions.proofs.keys.Tie as tie
@@ -22,7 +24,7 @@ key-count-requires c κs =
     let if1 = c .before .if1 in
     let is-held = c .before .before .is-held in
     let pre = c .before .before .before .before .before .pre in
-    let table = readable (pre .1) _ (may-name _ _ (is-held .ensures) (if1 .left)) (c .get-shape .ensures) in
+    let table = readable (pre .1) _ (may-act _ (pre .1) _ (may-name _ _ (is-held .ensures) (if1 .left)) .isUsed) (c .get-shape .ensures) in
     (pre .0, (table .place, table .count))
 
 wide-requires : tie.Need-wide-requires
@@ -48,7 +50,7 @@ keys-requires c κs =
     let if1 = c .before .before .before .before .before .if1 in
     let is-held = c .before .before .before .before .before .before .is-held in
     let pre = c .before .before .before .before .before .before .before .before .before .pre in
-    let table = readable (pre .1) _ (may-name _ _ (is-held .ensures) (if1 .left)) (get-shape .ensures) in
+    let table = readable (pre .1) _ (may-act _ (pre .1) _ (may-name _ _ (is-held .ensures) (if1 .left)) .isUsed) (get-shape .ensures) in
     (pre .0, (table .place, (table .count, rw (← key-count .ensures, ← wide .ensures) (if2 .left))))
 
 same-length : tie.Need-same-length

@@ -1,6 +1,7 @@
 -- `questions::lookup` meets its contract. Assumes nothing.
 use borrow.Author.Tests.{not-true, not-false}
 use mathlib.Core.Path.{sym, _∙_}
+use Rattle.theorems.specs.Changes.{may-act}
 use Rattle.holds.specs.Granted.{not-held, may-name}
 use Rattle.questions.specs.Asked.{bad-key, lookup-refused, lookup-finds, lookup-finds-nothing}
 use borrow.Author.Needs.{needs}
@@ -24,11 +25,11 @@ returns-2 c =
     lookup-refused _ _ (not-held _ _ (is-held .ensures) (c .if2 .taken)) _ (sym (good-key .ensures) ∙
     not-false _ (if1 .left))
 
-property-requires : tie.Need-property-requires
-property-requires c κs =
+find-requires : tie.Need-find-requires
+find-requires c κs =
     let is-held = c .before .is-held in
     let pre = c .before .before .before .before .before .pre in
-    (pre .0, (pre .1, (may-name _ _ (is-held .ensures) (c .if2 .left))))
+    (pre .0, (pre .1, may-act _ (pre .1) _ (may-name _ _ (is-held .ensures) (c .if2 .left)) .isUsed))
 
 enum-known-p : tie.Need-enum-known-p
 enum-known-p c = search needs
@@ -39,25 +40,25 @@ enum-told c = search needs
 returns-3 : tie.Need-returns-3
 returns-3 c =
     let p = c .before .before .p in
-    let property = c .before .before .before .before .property in
+    let find = c .before .before .before .before .find in
     let if2 = c .before .before .before .before .before .if2 in
     let is-held = c .before .before .before .before .before .before .is-held in
     let if1 = c .before .before .before .before .before .before .before .if1 in
     let good-key = c .before .before .before .before .before .before .before .before .good-key in
     let pre = c .before .before .before .before .before .before .before .before .before .before .pre in
     lookup-finds (pre .0) _ (may-name _ _ (is-held .ensures) (if2 .left)) _ (sym (good-key .ensures) ∙
-    not-false _ (if1 .left)) (sym (property .ensures) ∙ p .given .1)
+    not-false _ (if1 .left)) (sym (find .ensures) ∙ p .given .1)
 
 returns-4 : tie.Need-returns-4
 returns-4 c =
-    let property = c .before .before .property in
+    let find = c .before .before .find in
     let if2 = c .before .before .before .if2 in
     let is-held = c .before .before .before .before .is-held in
     let if1 = c .before .before .before .before .before .if1 in
     let good-key = c .before .before .before .before .before .before .good-key in
     let pre = c .before .before .before .before .before .before .before .before .pre in
     lookup-finds-nothing (pre .0) _ (may-name _ _ (is-held .ensures) (if2 .left)) _ (sym
-    (good-key .ensures) ∙ not-false _ (if1 .left)) (sym (property .ensures) ∙ c .enum-told .given .1)
+    (good-key .ensures) ∙ not-false _ (if1 .left)) (sym (find .ensures) ∙ c .enum-told .given .1)
 
 pub lookup-spec : {M : Type 1} → statement M
 lookup-spec =
@@ -67,7 +68,7 @@ lookup-spec =
     returns
     is-held-requires
     returns-2
-    property-requires
+    find-requires
     enum-known-p
     enum-told
     returns-3

@@ -1,4 +1,5 @@
 -- `unique_shape::change_attributes_transition` meets its contract. Assumes nothing.
+use Rattle.theorems.specs.Uniques.{is-used}
 use borrow.Author.Needs.{needs}
 use Rattle.unique_shape.specs.OwnTable.{shape-place, own-table}
 use Rattle.unique_shape.specs.Rules.{its-entry, change-absent, change-same, change-moved}
@@ -13,7 +14,7 @@ get-shape-requires c κs =
 find-requires : tie.Need-find-requires
 find-requires c κs =
     let pre = c .before .before .before .before .pre in
-    (pre .0, (pre .1 .0, pre .1 .1 .0))
+    (pre .0, (pre .1 .0, is-used _ (pre .1 .0) _ (pre .1 .1 .0)))
 
 enum-known-found : tie.Need-enum-known-found
 enum-known-found c = search needs

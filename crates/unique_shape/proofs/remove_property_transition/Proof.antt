@@ -1,4 +1,5 @@
 -- `unique_shape::remove_property_transition` meets its contract. Assumes nothing.
+use Rattle.theorems.specs.Uniques.{is-used}
 use borrow.Author.Needs.{needs}
 use Rattle.unique_shape.specs.OwnTable.{shape-place}
 use Rattle.unique_shape.specs.Rules.{its-entry, remove-absent, remove-held}
@@ -11,7 +12,9 @@ get-shape-requires c κs =
     (pre .0, shape-place _ (pre .1 .0) _ (pre .1 .1))
 
 find-requires : tie.Need-find-requires
-find-requires c κs = c .before .before .before .before .pre
+find-requires c κs =
+    let pre = c .before .before .before .before .pre in
+    (pre .0, (pre .1 .0, is-used _ (pre .1 .0) _ (pre .1 .1)))
 
 enum-told : tie.Need-enum-told
 enum-told c = search needs
