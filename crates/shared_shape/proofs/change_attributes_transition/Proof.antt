@@ -13,10 +13,10 @@ change-width-requires : tie.Need-change-width-requires
 change-width-requires c κs =
     let if1 = c .before .if1 in
     let width-stays = c .before .before .width-stays in
-    let pre = c .before .before .before .before .before .pre in (
-      pre .0,
-      (pre .1 .0, (pre .1 .1 .0, (pre .1 .1 .1 .1 .0, (pre .1 .1 .1 .1 .1 .1, (sym (width-stays .ensures) ∙ not-true _ (if1 .taken)))))),
-    )
+    let pre = c .before .before .before .before .before .pre in
+    let rest = pre .1 .1 .1 in
+    let other = sym (width-stays .ensures) ∙ not-true _ (if1 .taken) in
+    (pre .0, (pre .1 .0, (pre .1 .1 .0, (rest .1 .0, (rest .1 .1 .1, other)))))
 
 same-length : tie.Need-same-length
 same-length c = search needs
@@ -31,10 +31,11 @@ one-step-requires : tie.Need-one-step-requires
 one-step-requires c κs =
     let if1 = c .before .before .if1 in
     let width-stays = c .before .before .before .width-stays in
-    let pre = c .before .before .before .before .before .before .pre in (
-      pre .0,
-      (pre .1 .0, configure-legal _ (pre .1 .0) _ _ (pre .1 .1 .0) (pre .1 .1 .1 .1 .0) _ (sym (width-stays .ensures) ∙ not-false _ (if1 .left)) (pre .1 .1 .1 .0) (pre .1 .1 .1 .1 .1 .0) (pre .1 .1 .1 .1 .1 .1)),
-    )
+    let pre = c .before .before .before .before .before .before .pre in
+    let rest = pre .1 .1 .1 in
+    let same = sym (width-stays .ensures) ∙ not-false _ (if1 .left) in
+    let legal = configure-legal _ (pre .1 .0) _ _ (pre .1 .1 .0) (rest .1 .0) _ same (rest .0) in
+    (pre .0, (pre .1 .0, legal (rest .1 .1 .0) (rest .1 .1 .1)))
 
 same-length-2 : tie.Need-same-length-2
 same-length-2 c = search needs
