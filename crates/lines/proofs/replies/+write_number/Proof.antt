@@ -1,0 +1,135 @@
+use Prim.Native.Nat.{ℕ, _<_}
+use borrow.Fn.Kinds.{In}
+use borrow.Fn.PlainCycle.{Measures, is, falls, and}
+use Rattle.lines.proofs.replies.write_number.Reads as write-number
+use Rattle.lines.proofs.replies.write_number.Kinds as write-number-kinds
+use Rattle.lines.proofs.replies.+write_number.Lts-write_number as write-number-lts
+use Rattle.lines.proofs.replies.+write_number.{statement}
+use Rattle.lines.proofs.replies.+write_number.Tie.{close}
+
+abbrev μ-write-number : Measures 1 write-number-kinds.ps ℕ
+μ-write-number κs a = ?
+
+abbrev write-number-at : ℕ → In 1 write-number-kinds.ps
+write-number-at t =
+    and 1 write-number-kinds.ps (is 1 write-number-kinds.ps μ-write-number t) write-number.Pre
+
+abbrev write-number-below : ℕ → In 1 write-number-kinds.ps
+write-number-below t =
+    and
+    1
+    write-number-kinds.ps
+    (falls 1 write-number-kinds.ps _<_ μ-write-number t)
+    write-number.Pre
+
+-- src/replies.rt:97:24
+write-number-cast-out : (t : ℕ) → write-number-lts.Need-cast-out (
+  write-number-below t,
+  write-number.Post,
+) (write-number-at t) write-number.Post
+write-number-cast-out t c = ?
+
+-- src/replies.rt:97:19
+write-number-add-out : (t : ℕ) → write-number-lts.Need-add-out (
+  write-number-below t,
+  write-number.Post,
+) (write-number-at t) write-number.Post
+write-number-add-out t c = ?
+
+-- src/replies.rt:97:9
+write-number-slice-write-out : (t : ℕ) → write-number-lts.Need-slice-write-out (
+  write-number-below t,
+  write-number.Post,
+) (write-number-at t) write-number.Post
+write-number-slice-write-out t c = ?
+
+-- src/replies.rt:98:16
+write-number-add-result : (t : ℕ) → write-number-lts.Need-add-result (
+  write-number-below t,
+  write-number.Post,
+) (write-number-at t) write-number.Post
+write-number-add-result t c = ?
+
+-- src/replies.rt:98:9
+write-number-same-length : (t : ℕ) → write-number-lts.Need-same-length (
+  write-number-below t,
+  write-number.Post,
+) (write-number-at t) write-number.Post
+write-number-same-length t c = ?
+
+-- src/replies.rt:98:9
+write-number-returns : (t : ℕ) → write-number-lts.Need-returns (
+  write-number-below t,
+  write-number.Post,
+) (write-number-at t) write-number.Post
+write-number-returns t c = ?
+
+-- src/replies.rt:100:9
+write-number-write-number-requires : (t : ℕ) → write-number-lts.Need-write-number-requires (
+  write-number-below t,
+  write-number.Post,
+) (write-number-at t) write-number.Post
+write-number-write-number-requires t c κs = ?
+
+-- src/replies.rt:101:21
+write-number-cast-out-2 : (t : ℕ) → write-number-lts.Need-cast-out-2 (
+  write-number-below t,
+  write-number.Post,
+) (write-number-at t) write-number.Post
+write-number-cast-out-2 t c = ?
+
+-- src/replies.rt:101:16
+write-number-add-out-2 : (t : ℕ) → write-number-lts.Need-add-out-2 (
+  write-number-below t,
+  write-number.Post,
+) (write-number-at t) write-number.Post
+write-number-add-out-2 t c = ?
+
+-- src/replies.rt:101:5
+write-number-slice-write-out-2 : (t : ℕ) → write-number-lts.Need-slice-write-out-2 (
+  write-number-below t,
+  write-number.Post,
+) (write-number-at t) write-number.Post
+write-number-slice-write-out-2 t c = ?
+
+-- src/replies.rt:102:5
+write-number-add-result-2 : (t : ℕ) → write-number-lts.Need-add-result-2 (
+  write-number-below t,
+  write-number.Post,
+) (write-number-at t) write-number.Post
+write-number-add-result-2 t c = ?
+
+-- src/replies.rt:92:1
+write-number-same-length-2 : (t : ℕ) → write-number-lts.Need-same-length-2 (
+  write-number-below t,
+  write-number.Post,
+) (write-number-at t) write-number.Post
+write-number-same-length-2 t c = ?
+
+-- src/replies.rt:92:1
+write-number-returns-2 : (t : ℕ) → write-number-lts.Need-returns-2 (
+  write-number-below t,
+  write-number.Post,
+) (write-number-at t) write-number.Post
+write-number-returns-2 t c = ?
+
+pub +write-number-spec : {M : Type 1} → statement M
++write-number-spec = close μ-write-number λ t. write-number-lts.spec (
+  write-number-below t,
+  write-number.Post,
+)
+    (write-number-at t)
+    write-number.Post
+    (write-number-cast-out t)
+    (write-number-add-out t)
+    (write-number-slice-write-out t)
+    (write-number-add-result t)
+    (write-number-same-length t)
+    (write-number-returns t)
+    (write-number-write-number-requires t)
+    (write-number-cast-out-2 t)
+    (write-number-add-out-2 t)
+    (write-number-slice-write-out-2 t)
+    (write-number-add-result-2 t)
+    (write-number-same-length-2 t)
+    (write-number-returns-2 t)

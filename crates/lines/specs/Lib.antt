@@ -1,0 +1,3 @@
+pub mod Commands
+pub mod Reading
+pub mod Writing

@@ -1,0 +1,85 @@
+// The numbers after a line's letter: "Decimal, leading zeros allowed, single spaces, .. numbers below 2^32".
+use crate::NumberAt;
+use crate::NumberRead;
+use crate::Numbers;
+ghost use mathlib.Core.Path.{_≡_};
+ghost use Prim.Native.Nat.{_≤_, _<_};
+ghost use lib.ListN.{length, drop};
+ghost use Rattle.store.specs.Layout.{within};
+ghost use Rattle.lines.specs.Commands.{listed};
+ghost use Rattle.lines.specs.Reading.{stops, following, atMostThree, withNumber, ReadsOn};
+
+const SPACE: u8 = b' ';
+
+// A number ends at the next space or at the end of the line.
+fn stops_at(line: &[u8], at: usize) -> bool
+    requires { ⌜ at ≤ length (now line) ⌝ }
+    ensures { λ r. ⌜ r ≡ stops (drop at (now (line .entry))) ⌝ }
+{
+    if at < line.len() {
+        line[at] == SPACE
+    } else {
+        true
+    }
+}
+
+fn is_digit(byte: u8) -> bool
+    ensures { λ r. ⌜ r ≡ within 48 57 byte ⌝ }
+{
+    (48 <= byte) & (byte <= 57)
+}
+
+fn read_number(line: &[u8], start: usize) -> NumberRead
+    requires { ⌜ start ≤ length (now line) ⌝ }
+    ensures { λ r. ⌜ ReadsOn (now (line .entry)) start r ⌝ }
+{
+    if stops_at(line, start) {
+        return NumberRead::Bad;
+    }
+    let mut value = 0u64;
+    let mut end = start;
+    while !stops_at(line, end) {
+        let byte = line[end];
+        if !is_digit(byte) {
+            return NumberRead::Bad;
+        }
+        value = 10 * value + (byte - 48) as u64;
+        if value > 4294967295 {
+            return NumberRead::Bad;
+        }
+        end += 1;
+    }
+    NumberRead::Reads(NumberAt { value: value as u32, end })
+}
+
+fn with_number(numbers: Numbers, value: u32) -> Numbers
+    ensures { λ r. ⌜ r ≡ withNumber numbers value ⌝ }
+{
+    match numbers {
+        Numbers::Zero => Numbers::One(value),
+        Numbers::One(first) => Numbers::Two(first, value),
+        Numbers::Two(first, second) => Numbers::Three(first, second, value),
+        Numbers::Three(_, _, _) => Numbers::Bad,
+        Numbers::Bad => Numbers::Bad,
+    }
+}
+
+// Those of the whole line; the letter is its first byte.
+pub fn read_numbers(line: &[u8]) -> Numbers
+    requires { ⌜ 0 < length (now line) ⌝ }
+    ensures { λ r. ⌜ listed r ≡ atMostThree (following (drop 1 (now (line .entry)))) ⌝ }
+{
+    let mut numbers = Numbers::Zero;
+    let mut at = 1;
+    while at < line.len() {
+        if line[at] != SPACE {
+            return Numbers::Bad;
+        }
+        let NumberRead::Reads(next) = read_number(line, at + 1) else {
+            return Numbers::Bad;
+        };
+        numbers = with_number(numbers, next.value);
+        at = next.end;
+    }
+    numbers
+}
