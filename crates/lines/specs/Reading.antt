@@ -61,7 +61,7 @@ digits-end v (b ∷ s) l e = rw (e, lt-ltb v (2 ^ 32) l)
 
 -- One more digit, or no digit.
 module _ (v b : ℕ) where
-  decimal-digit : (p : List ℕ) → within 48 57 b ≡ true → decimal v (b ∷ p) ≡ decimal (10 * v + (b - 48)) p
+  pub decimal-digit : (p : List ℕ) → within 48 57 b ≡ true → decimal v (b ∷ p) ≡ decimal (10 * v + (b - 48)) p
   decimal-digit p = go (within 48 57 b)
     where
       go : (t : Bool) → t ≡ true

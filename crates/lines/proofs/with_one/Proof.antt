@@ -1,16 +1,23 @@
-use borrow.Author.Needs.{needs}
+-- `lines::with_one` meets its contract. Assumes nothing.
+use mathlib.Core.Bool.{and-false}
+use mathlib.Core.List.{[], _∷_}
+use mathlib.Core.Option.{some}
+use mathlib.Core.Path.{sym, ap}
+use Prim.Native.Nat.{ℕ}
+use borrow.Author.Tests.{ne-eqb}
+use Rattle.rules.specs.Runner.{formed}
 use Rattle.lines.proofs.with_one.Statement.{statement}
 use Rattle.lines.proofs.with_one.Tie as tie
-use Rattle.lines.proofs.with_one.Reads as reads
-use Rattle.lines.proofs.with_one.Lts as lts
 
--- src/lib.rt:73:1
 returns : tie.Need-returns
-returns c = search needs
+returns c = sym (ap (λ (l : ℕ). formed (l ∷ []) (some (c .before .args .shape ∷ []))) (c .match .keys1))
 
--- src/lib.rt:73:1
 returns-2 : tie.Need-returns-2
-returns-2 c = search needs
+returns-2 c = simp (ne-eqb _ 70 (c .match .rest .1), and-false)
 
 pub with-one-spec : {M : Type 1} → statement M
-with-one-spec = tie.close (tie.spec returns returns-2)
+with-one-spec =
+    tie.close
+    (tie.spec
+    returns
+    returns-2)

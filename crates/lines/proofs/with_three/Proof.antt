@@ -1,20 +1,27 @@
-use borrow.Author.Needs.{needs}
+-- `lines::with_three` meets its contract. Assumes nothing.
+use mathlib.Core.Bool.{and-false}
+use mathlib.Core.List.{[], _∷_}
+use mathlib.Core.Option.{some}
+use mathlib.Core.Path.{sym, ap}
+use Prim.Native.Nat.{ℕ}
+use borrow.Author.Tests.{ne-eqb}
+use Rattle.rules.specs.Runner.{formed}
 use Rattle.lines.proofs.with_three.Statement.{statement}
 use Rattle.lines.proofs.with_three.Tie as tie
-use Rattle.lines.proofs.with_three.Reads as reads
-use Rattle.lines.proofs.with_three.Lts as lts
 
--- src/lib.rt:92:1
 returns : tie.Need-returns
-returns c = search needs
+returns c = sym (ap (λ (l : ℕ). formed (l ∷ []) (some (c .before .args .shape ∷ c .before .args .key ∷ c .before .args .attributes ∷ []))) (c .match .keys1))
 
--- src/lib.rt:92:1
 returns-2 : tie.Need-returns-2
-returns-2 c = search needs
+returns-2 c = sym (ap (λ (l : ℕ). formed (l ∷ []) (some (c .before .args .shape ∷ c .before .args .key ∷ c .before .args .attributes ∷ []))) (c .match .keys2))
 
--- src/lib.rt:92:1
 returns-3 : tie.Need-returns-3
-returns-3 c = search needs
+returns-3 c = simp (ne-eqb _ 73 (c .match .rest .0 .1), ne-eqb _ 67 (c .match .rest .1), and-false)
 
 pub with-three-spec : {M : Type 1} → statement M
-with-three-spec = tie.close (tie.spec returns returns-2 returns-3)
+with-three-spec =
+    tie.close
+    (tie.spec
+    returns
+    returns-2
+    returns-3)

@@ -1,24 +1,31 @@
-use borrow.Author.Needs.{needs}
+-- `lines::without_numbers` meets its contract. Assumes nothing.
+use mathlib.Core.Bool.{and-false}
+use mathlib.Core.List.{[], _∷_}
+use mathlib.Core.Option.{some}
+use mathlib.Core.Path.{sym, ap}
+use Prim.Native.Nat.{ℕ}
+use borrow.Author.Tests.{ne-eqb}
+use Rattle.rules.specs.Runner.{formed}
 use Rattle.lines.proofs.without_numbers.Statement.{statement}
 use Rattle.lines.proofs.without_numbers.Tie as tie
-use Rattle.lines.proofs.without_numbers.Reads as reads
-use Rattle.lines.proofs.without_numbers.Lts as lts
 
--- src/lib.rt:62:1
 returns : tie.Need-returns
-returns c = search needs
+returns c = sym (ap (λ (l : ℕ). formed (l ∷ []) (some [])) (c .match .keys1))
 
--- src/lib.rt:62:1
 returns-2 : tie.Need-returns-2
-returns-2 c = search needs
+returns-2 c = sym (ap (λ (l : ℕ). formed (l ∷ []) (some [])) (c .match .keys2))
 
--- src/lib.rt:62:1
 returns-3 : tie.Need-returns-3
-returns-3 c = search needs
+returns-3 c = sym (ap (λ (l : ℕ). formed (l ∷ []) (some [])) (c .match .keys3))
 
--- src/lib.rt:62:1
 returns-4 : tie.Need-returns-4
-returns-4 c = search needs
+returns-4 c = simp (ne-eqb _ 82 (c .match .rest .0 .0 .1), ne-eqb _ 85 (c .match .rest .0 .1), ne-eqb _ 83 (c .match .rest .1), and-false)
 
 pub without-numbers-spec : {M : Type 1} → statement M
-without-numbers-spec = tie.close (tie.spec returns returns-2 returns-3 returns-4)
+without-numbers-spec =
+    tie.close
+    (tie.spec
+    returns
+    returns-2
+    returns-3
+    returns-4)

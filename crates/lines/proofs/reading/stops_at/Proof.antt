@@ -1,20 +1,22 @@
+-- `lines::reading::stops_at` meets its contract. Assumes nothing.
 use borrow.Author.Needs.{needs}
+use Rattle.lines.specs.Reading.{stop-within, stop-outside}
 use Rattle.lines.proofs.reading.stops_at.Statement.{statement}
 use Rattle.lines.proofs.reading.stops_at.Tie as tie
-use Rattle.lines.proofs.reading.stops_at.Reads as reads
-use Rattle.lines.proofs.reading.stops_at.Lts as lts
 
--- src/reading.rt:20:9
 shared-slice-read-result : tie.Need-shared-slice-read-result
 shared-slice-read-result c = search needs
 
--- src/reading.rt:15:1
 returns : tie.Need-returns
-returns c = search needs
+returns c = stop-within (c .before .before .args .line .now) (c .before .if1 .taken)
 
--- src/reading.rt:15:1
 returns-2 : tie.Need-returns-2
-returns-2 c = search needs
+returns-2 c = stop-outside (c .before .args .line .now) (c .if1 .left)
 
 pub stops-at-spec : {M : Type 1} → statement M
-stops-at-spec = tie.close (tie.spec shared-slice-read-result returns returns-2)
+stops-at-spec =
+    tie.close
+    (tie.spec
+    shared-slice-read-result
+    returns
+    returns-2)

@@ -1,46 +1,39 @@
+-- `lines::reading::with_number` meets its contract. Assumes nothing.
+use mathlib.Core.Path.{sym, ap}
+use Prim.Native.Nat.{ℕ}
 use borrow.Author.Needs.{needs}
+use Rattle.lines.specs.Reading.{withNumber}
+use Rattle.lines.specs.declared.Numbers.{Numbers}
 use Rattle.lines.proofs.reading.with_number.Statement.{statement}
 use Rattle.lines.proofs.reading.with_number.Tie as tie
-use Rattle.lines.proofs.reading.with_number.Reads as reads
-use Rattle.lines.proofs.reading.with_number.Lts as lts
 
--- src/reading.rt:59:26
 enum-told : tie.Need-enum-told
 enum-told c = search needs
 
--- src/reading.rt:60:22
 enum-known-numbers : tie.Need-enum-known-numbers
 enum-known-numbers c = search needs
 
--- src/reading.rt:61:22
 enum-known-numbers-2 : tie.Need-enum-known-numbers-2
 enum-known-numbers-2 c = search needs
 
--- src/reading.rt:62:36
 enum-told-2 : tie.Need-enum-told-2
 enum-told-2 c = search needs
 
--- src/reading.rt:63:25
 enum-told-3 : tie.Need-enum-told-3
 enum-told-3 c = search needs
 
--- src/reading.rt:55:1
 returns : tie.Need-returns
-returns c = search needs
+returns c = sym (ap (λ (r : Numbers). withNumber r (c .before .before .args .value)) (c .enum-told .given .1))
 
--- src/reading.rt:55:1
 returns-2 : tie.Need-returns-2
-returns-2 c = search needs
+returns-2 c = sym (ap (λ (r : Numbers). withNumber r (c .before .before .before .args .value)) (c .before .numbers .given .1))
 
--- src/reading.rt:55:1
 returns-3 : tie.Need-returns-3
-returns-3 c = search needs
+returns-3 c = sym (ap (λ (r : Numbers). withNumber r (c .before .before .before .args .value)) (c .before .numbers2 .given .1))
 
--- src/reading.rt:55:1
 returns-4 : tie.Need-returns-4
 returns-4 c = search needs
 
--- src/reading.rt:55:1
 returns-5 : tie.Need-returns-5
 returns-5 c = search needs
 

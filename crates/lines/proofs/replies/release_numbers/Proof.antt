@@ -1,30 +1,33 @@
+-- `lines::replies::release_numbers` meets its contract. Assumes nothing.
+use mathlib.Core.Path.{sym, ap, _∙_}
 use borrow.Author.Needs.{needs}
+use Rattle.rules.specs.Runner.{fourNumbers}
+use Rattle.rules.specs.Replies.{releaseReply}
+use Rattle.rules.specs.declared.ReleaseReply.{ReleaseReply}
 use Rattle.lines.proofs.replies.release_numbers.Statement.{statement}
 use Rattle.lines.proofs.replies.release_numbers.Tie as tie
-use Rattle.lines.proofs.replies.release_numbers.Reads as reads
-use Rattle.lines.proofs.replies.release_numbers.Lts as lts
-use Rattle.lines.proofs.replies.refused.Reads as refused-reads
 
--- src/replies.rt:78:35
 enum-told : tie.Need-enum-told
 enum-told c = search needs
 
--- src/replies.rt:79:31
 enum-known-reply : tie.Need-enum-known-reply
 enum-known-reply c = search needs
 
--- src/replies.rt:79:37
 refused-requires : tie.Need-refused-requires
 refused-requires c κs = search needs
 
--- src/replies.rt:74:1
 returns : tie.Need-returns
-returns c = search needs
+returns c = sym (ap (λ (r : ReleaseReply). fourNumbers (releaseReply r)) (c .enum-told .given .1))
 
--- src/replies.rt:74:1
 returns-2 : tie.Need-returns-2
-returns-2 c = search needs
+returns-2 c = c .refused .ensures ∙ sym (ap (λ (r : ReleaseReply). fourNumbers (releaseReply r)) (c .before .before .reply .given .1))
 
 pub release-numbers-spec : {M : Type 1} → statement M
 release-numbers-spec =
-    tie.close (tie.spec enum-told enum-known-reply refused-requires returns returns-2)
+    tie.close
+    (tie.spec
+    enum-told
+    enum-known-reply
+    refused-requires
+    returns
+    returns-2)
