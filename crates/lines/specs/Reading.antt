@@ -8,12 +8,12 @@ use mathlib.Core.Path.{_≡_, refl, sym, ap, _∙_}
 use Prim.Native.Nat.{ℕ, zero, suc, _+_, _-_, _*_, _^_, _≤_, _<_}
 use native.Mathlib.Numerals.{add-one}
 use native.Mathlib.Omega.{arith}
-use borrow.Author.Tests.{lt-ltb, le-ltb, ne-eqb, eq-eqb, eqb-true}
-use lib.Dec.{eqb}
+use borrow.Author.Tests.{lt-ltb, le-ltb, ne-eqb, eq-eqb, eqb-true, leb-true}
+use lib.Dec.{eqb, leb}
 use lib.ListN.{length, getD, drop, drop-of-length-le}
 use lib.Seq.{drop-cons}
 use Rattle.slot.specs.If.{if_then_else_}
-use Rattle.store.specs.ListLaws.{Decided, either}
+use Rattle.store.specs.ListLaws.{Decided, and-both, either}
 use Rattle.store.specs.Layout.{within}
 use Rattle.rules.specs.Runner.{space, onFirst, parts, decimal, below2^32, both, numbers, formed}
 use Rattle.rules.specs.Runner.{command, lineCall}
@@ -91,6 +91,9 @@ module _ (v b : ℕ) where
         go : (ps : List (List ℕ)) → onward v (onFirst b ps) ≡ none
         go [] = ap (λ (o : Option ℕ). both (below2^32 o) (some [])) (decimal-other [] e)
         go (p ∷ ps) = ap (λ (o : Option ℕ). both (below2^32 o) (numbers ps)) (decimal-other p e)
+
+pub digit-range : (b : ℕ) → within 48 57 b ≡ true → (48 ≤ b) × (b ≤ 57)
+digit-range b e = let p = and-both (leb 48 b) e in (leb-true 48 b (p .0), leb-true b 57 (p .1))
 
 -- Further digits make a number no smaller.
 too-big : (v : ℕ) (p : List ℕ) → 2 ^ 32 ≤ v → below2^32 (decimal v p) ≡ none
@@ -335,6 +338,7 @@ pub too-long : (line : List ℕ) → 64 < length line → none ≡ lineCall line
 unfolding lineCall
 too-long line l = rw (lt-ltb 64 (length line) l)
 
-pub no-line : none ≡ lineCall []
+pub no-line : (line : List ℕ) → length line ≡ 0 → none ≡ lineCall line
 unfolding lineCall
-no-line = refl
+no-line [] e = refl
+no-line (b ∷ line) e = absurd (omega arith)

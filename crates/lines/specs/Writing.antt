@@ -12,7 +12,7 @@ use native.Mathlib.Omega.{arith}
 use borrow.Author.Tests.{lt-ltb, le-ltb, ltb-true, ltb-false, le-leb}
 use lib.Dec.{ltb}
 use lib.ListN.{length, take, drop, set, length-append}
-use lib.Seq.{sets, length-sets, sets-eq}
+use lib.Seq.{sets, length-sets, sets-eq, append-snoc}
 use Rattle.store.specs.Layout.{within}
 use Rattle.store.specs.ListLaws.{Decided, either, both-and}
 use Rattle.rules.specs.Runner.{space, lineFeed, decimal, below2^32, number}
@@ -171,10 +171,8 @@ sets-append : (ws : List ℕ) (at : ℕ) (xs ys : List ℕ) → sets (sets ws at
 sets-append ws at [] ys = rw add-zero
 sets-append ws at (x ∷ xs) ys = rw (add-suc, ← suc-add) (sets-append (set ws at x) (suc at) xs ys)
 
-pub written-byte : (ws : List ℕ) (at x : ℕ) → Written ws (set ws at x) at (x ∷ []) (at + 1)
-written-byte ws at x = record { bytes = refl; ended = refl }
-
-pub written-then : {before between after : List ℕ} {at : ℕ} {xs : List ℕ} {seam : ℕ} {ys : List ℕ} {end : ℕ}
+-- A text, and then another.
+written-then : {before between after : List ℕ} {at : ℕ} {xs : List ℕ} {seam : ℕ} {ys : List ℕ} {end : ℕ}
     → Written before between at xs seam → Written between after seam ys end
     → Written before after at (xs ++ ys) end
 written-then {before} {between} {after} {at} {xs} {seam} {ys} {end} w v =
@@ -182,3 +180,42 @@ written-then {before} {between} {after} {at} {xs} {seam} {ys} {end} w v =
       bytes = v .bytes ∙ rw (w .bytes, w .ended) (sets-append before at xs ys);
       ended = rw length-append (omega (arith, w .ended, v .ended));
     }
+
+one-byte : (ws : List ℕ) (at x : ℕ) → Written ws (set ws at x) at (x ∷ []) (at + 1)
+one-byte ws at x = record { bytes = refl; ended = refl }
+
+module _ {before between : List ℕ} {at : ℕ} {xs : List ℕ} {seam : ℕ} (w : Written before between at xs seam) where
+  pub then-byte : (x : ℕ) → Written before (set between seam x) at (xs ++ x ∷ []) (seam + 1)
+  then-byte x = written-then w (one-byte between seam x)
+
+-- ## One number
+
+module _ (n : ℕ) where
+  pub small-room : {at room : ℕ} → n < 10 → at + length (decimalDigits n) ≤ room → at < room
+  small-room l h = let h₁ = rw (digits-small n l) at h in omega arith
+
+  pub small-written : (ws : List ℕ) (at : ℕ) → n < 10
+      → Written ws (set ws at (48 + n)) at (decimalDigits n) (at + 1)
+  small-written ws at l = rw (digits-small n l) (one-byte ws at (48 + n))
+
+  pub large-room : {at room : ℕ} → 10 ≤ n → at + length (decimalDigits n) ≤ room
+      → at + length (decimalDigits (n / 10)) < room
+  large-room l h = let h₁ = rw (digits-large n l, length-append) at h in omega arith
+
+  pub large-written : {before between : List ℕ} {at seam : ℕ} → 10 ≤ n
+      → Written before between at (decimalDigits (n / 10)) seam
+      → Written before (set between seam (48 + n % 10)) at (decimalDigits n) (seam + 1)
+  large-written l w = rw (digits-large n l) (then-byte w (48 + n % 10))
+
+-- ## Four numbers
+
+module _ {before between : List ℕ} {at n x : ℕ} {seam : ℕ} (w : Written before between at (decimalDigits n ++ x ∷ []) seam) where
+  -- It took eleven bytes at most.
+  pub next-room : (more : ℕ) → n < 2 ^ 32 → at + (11 + more) ≤ length before → seam + more ≤ length between
+  next-room more l h =
+      let e = w .ended ∙ ap (λ (k : ℕ). at + k) (length-append (decimalDigits n) (x ∷ [])) in
+      omega (arith, e, ten-digits n l, same-length w)
+
+  pub then-text : {after text : List ℕ} {end : ℕ} → Written between after seam text end
+      → Written before after at (decimalDigits n ++ x ∷ text) end
+  then-text {after} {text} v = rw (← append-snoc (decimalDigits n) x text) (written-then w v)

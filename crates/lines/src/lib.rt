@@ -117,7 +117,10 @@ fn command_of(letter: u8, numbers: Numbers) -> Command
 pub fn read_line(line: &[u8]) -> Command
     ensures { λ r. ⌜ commandCall r ≡ lineCall (now (line .entry)) ⌝ }
 {
-    if (line.len() == 0) | (line.len() > 64) {
+    if line.len() == 0 {
+        return Command::BadLine;
+    }
+    if line.len() > 64 {
         return Command::BadLine;
     }
     command_of(line[0], read_numbers(line))

@@ -1,84 +1,71 @@
+-- `lines::reading::read_number` meets its contract. Assumes nothing.
+use Rattle.lines.specs.Reading.{digit-range, digit-bad, digit-big, digit-on}
+use Rattle.lines.specs.Reading.{Digits, number-empty, number-begins, number-done, byte-there}
+use lib.ListN.{length, getD}
+use borrow.Author.Tests.{not-true, not-false}
+use native.Mathlib.Omega.{arith}
+use mathlib.Core.Path.{refl, sym, _∙_}
+use Prim.Native.Nat.{_-_}
 use borrow.Author.Needs.{needs}
 use Rattle.lines.proofs.reading.read_number.Statement.{statement}
 use Rattle.lines.proofs.reading.read_number.Tie as tie
-use Rattle.lines.proofs.reading.read_number.Reads as reads
-use Rattle.lines.proofs.reading.read_number.Lts as lts
-use Rattle.lines.proofs.reading.is_digit.Reads as is-digit-reads
-use Rattle.lines.proofs.reading.stops_at.Reads as stops-at-reads
 
 abbrev Inv-loop : tie.InvT-loop
-Inv-loop line start value₀ end₀ value end = ?
+Inv-loop line start value₀ end₀ value end = Digits line start value end
 
 abbrev μ-loop : tie.MeasureT-loop
-μ-loop line start value₀ end₀ value end = ?
+μ-loop line start value₀ end₀ value end = length line - end
 
--- src/reading.rt:36:8
 stops-at-requires : tie.Need-stops-at-requires Inv-loop μ-loop
 stops-at-requires c κs = search needs
 
--- src/reading.rt:37:9
 returns : tie.Need-returns Inv-loop μ-loop
-returns c = search needs
+returns c = number-empty (c .before .stops-at .ensures) (c .if1 .taken)
 
--- src/reading.rt:41:5
 loop-holds : tie.Need-loop-holds Inv-loop μ-loop
-loop-holds c = search needs
+loop-holds c = number-begins (c .before .stops-at .ensures) (c .before .before .before .pre) (c .if1 .left)
 
--- src/reading.rt:41:12
 stops-at-requires-2 : tie.Need-stops-at-requires-2 Inv-loop μ-loop
-stops-at-requires-2 c κs = search needs
+stops-at-requires-2 c κs = c .loop .inv .to
 
--- src/reading.rt:42:20
 shared-slice-read-byte : tie.Need-shared-slice-read-byte Inv-loop μ-loop
-shared-slice-read-byte c = search needs
+shared-slice-read-byte c = byte-there (c .before .before .before .loop .inv) (c .before .before .stops-at2 .ensures) (not-true _ (c .before .if2 .taken))
 
--- src/reading.rt:43:13
 is-digit-requires : tie.Need-is-digit-requires Inv-loop μ-loop
 is-digit-requires c κs = search needs
 
--- src/reading.rt:44:13
 returns-2 : tie.Need-returns-2 Inv-loop μ-loop
-returns-2 c = search needs
+returns-2 c = digit-bad (c .before .before .before .before .before .loop .inv) (c .before .before .before .before .stops-at2 .ensures) (not-true _ (c .before .before .before .if2 .taken)) refl (sym (c .before .is-digit .ensures) ∙ not-true _ (c .if3 .taken))
 
--- src/reading.rt:46:17
 mul-value : tie.Need-mul-value Inv-loop μ-loop
-mul-value c = search needs
+mul-value c = omega (arith, c .before .before .before .before .before .loop .inv .small)
 
--- src/reading.rt:46:31
 sub-value : tie.Need-sub-value Inv-loop μ-loop
-sub-value c = search needs
+sub-value c = digit-range (getD (c .before .before .before .before .before .before .before .before .before .args .line .now) (c .before .before .before .before .before .loop .end) 0) (sym (c .before .is-digit .ensures) ∙ not-false _ (c .if3 .left)) .0
 
--- src/reading.rt:46:30
 cast-value : tie.Need-cast-value Inv-loop μ-loop
-cast-value c = search needs
+cast-value c = omega (arith, digit-range (getD (c .before .before .before .before .before .before .before .before .before .args .line .now) (c .before .before .before .before .before .loop .end) 0) (sym (c .before .is-digit .ensures) ∙ not-false _ (c .if3 .left)))
 
--- src/reading.rt:46:17
 add-value : tie.Need-add-value Inv-loop μ-loop
-add-value c = search needs
+add-value c = omega (arith, c .before .before .before .before .before .loop .inv .small, digit-range (getD (c .before .before .before .before .before .before .before .before .before .args .line .now) (c .before .before .before .before .before .loop .end) 0) (sym (c .before .is-digit .ensures) ∙ not-false _ (c .if3 .left)))
 
--- src/reading.rt:48:13
 returns-3 : tie.Need-returns-3 Inv-loop μ-loop
-returns-3 c = search needs
+returns-3 c = digit-big (c .before .before .before .before .before .before .loop .inv) (c .before .before .before .before .before .stops-at2 .ensures) (not-true _ (c .before .before .before .before .if2 .taken)) refl (sym (c .before .before .is-digit .ensures) ∙ not-false _ (c .before .if3 .left)) (c .if4 .taken)
 
--- src/reading.rt:50:9
 add-end : tie.Need-add-end Inv-loop μ-loop
-add-end c = search needs
+add-end c = omega (arith, byte-there (c .before .before .before .before .before .before .loop .inv) (c .before .before .before .before .before .stops-at2 .ensures) (not-true _ (c .before .before .before .before .if2 .taken)))
 
--- src/reading.rt:41:5
 loop-less : tie.Need-loop-less Inv-loop μ-loop
-loop-less c = search needs
+loop-less c = omega (arith, byte-there (c .before .before .before .before .before .before .loop .inv) (c .before .before .before .before .before .stops-at2 .ensures) (not-true _ (c .before .before .before .before .if2 .taken)))
 
--- src/reading.rt:41:5
 loop-again : tie.Need-loop-again Inv-loop μ-loop
-loop-again c = search needs
+loop-again c = digit-on (c .before .before .before .before .before .before .loop .inv) (c .before .before .before .before .before .stops-at2 .ensures) (not-true _ (c .before .before .before .before .if2 .taken)) refl (sym (c .before .before .is-digit .ensures) ∙ not-false _ (c .before .if3 .left)) (c .if4 .left)
 
--- src/reading.rt:52:41
 cast-t13 : tie.Need-cast-t13 Inv-loop μ-loop
-cast-t13 c = search needs
+cast-t13 c = omega (arith, c .before .before .loop .inv .small)
 
--- src/reading.rt:32:1
 returns-4 : tie.Need-returns-4 Inv-loop μ-loop
-returns-4 c = search needs
+returns-4 c = number-done (c .before .before .loop .inv) (c .before .stops-at2 .ensures) (not-false _ (c .if2 .left))
 
 pub read-number-spec : {M : Type 1} → statement M
 read-number-spec =

@@ -1,3 +1,7 @@
+-- `lines::replies::write_number` meets its contract. Assumes nothing.
+use native.Mathlib.Omega.{arith}
+use borrow.Author.Needs.{needs}
+use Rattle.lines.specs.Writing.{small-room, small-written, large-room, large-written, same-length}
 use Prim.Native.Nat.{ℕ, _<_}
 use borrow.Fn.Kinds.{In}
 use borrow.Fn.PlainCycle.{Measures, is, falls, and}
@@ -8,7 +12,7 @@ use Rattle.lines.proofs.replies.+write_number.{statement}
 use Rattle.lines.proofs.replies.+write_number.Tie.{close}
 
 abbrev μ-write-number : Measures 1 write-number-kinds.ps ℕ
-μ-write-number κs a = ?
+μ-write-number κs a = a .1 .1 .0
 
 abbrev write-number-at : ℕ → In 1 write-number-kinds.ps
 write-number-at t =
@@ -22,96 +26,83 @@ write-number-below t =
     (falls 1 write-number-kinds.ps _<_ μ-write-number t)
     write-number.Pre
 
--- src/replies.rt:97:24
 write-number-cast-out : (t : ℕ) → write-number-lts.Need-cast-out (
   write-number-below t,
   write-number.Post,
 ) (write-number-at t) write-number.Post
-write-number-cast-out t c = ?
+write-number-cast-out t c = omega arith
 
--- src/replies.rt:97:19
 write-number-add-out : (t : ℕ) → write-number-lts.Need-add-out (
   write-number-below t,
   write-number.Post,
 ) (write-number-at t) write-number.Post
-write-number-add-out t c = ?
+write-number-add-out t c = omega arith
 
--- src/replies.rt:97:9
 write-number-slice-write-out : (t : ℕ) → write-number-lts.Need-slice-write-out (
   write-number-below t,
   write-number.Post,
 ) (write-number-at t) write-number.Post
-write-number-slice-write-out t c = ?
+write-number-slice-write-out t c = small-room (c .before .before .args .n) (c .if1 .taken) (c .before .before .pre .1)
 
--- src/replies.rt:98:16
 write-number-add-result : (t : ℕ) → write-number-lts.Need-add-result (
   write-number-below t,
   write-number.Post,
 ) (write-number-at t) write-number.Post
-write-number-add-result t c = ?
+write-number-add-result t c = omega (arith, small-room (c .before .before .args .n) (c .if1 .taken) (c .before .before .pre .1))
 
--- src/replies.rt:98:9
 write-number-same-length : (t : ℕ) → write-number-lts.Need-same-length (
   write-number-below t,
   write-number.Post,
 ) (write-number-at t) write-number.Post
-write-number-same-length t c = ?
+write-number-same-length t c = search needs
 
--- src/replies.rt:98:9
 write-number-returns : (t : ℕ) → write-number-lts.Need-returns (
   write-number-below t,
   write-number.Post,
 ) (write-number-at t) write-number.Post
-write-number-returns t c = ?
+write-number-returns t c = small-written (c .before .before .args .n) _ _ (c .if1 .taken)
 
--- src/replies.rt:100:9
 write-number-write-number-requires : (t : ℕ) → write-number-lts.Need-write-number-requires (
   write-number-below t,
   write-number.Post,
 ) (write-number-at t) write-number.Post
-write-number-write-number-requires t c κs = ?
+write-number-write-number-requires t c κs = (omega (arith, c .before .before .before .pre .0), omega (arith, large-room (c .before .before .before .args .n) (c .before .if1 .left) (c .before .before .before .pre .1)))
 
--- src/replies.rt:101:21
 write-number-cast-out-2 : (t : ℕ) → write-number-lts.Need-cast-out-2 (
   write-number-below t,
   write-number.Post,
 ) (write-number-at t) write-number.Post
-write-number-cast-out-2 t c = ?
+write-number-cast-out-2 t c = omega arith
 
--- src/replies.rt:101:16
 write-number-add-out-2 : (t : ℕ) → write-number-lts.Need-add-out-2 (
   write-number-below t,
   write-number.Post,
 ) (write-number-at t) write-number.Post
-write-number-add-out-2 t c = ?
+write-number-add-out-2 t c = omega arith
 
--- src/replies.rt:101:5
 write-number-slice-write-out-2 : (t : ℕ) → write-number-lts.Need-slice-write-out-2 (
   write-number-below t,
   write-number.Post,
 ) (write-number-at t) write-number.Post
 write-number-slice-write-out-2 t c = ?
 
--- src/replies.rt:102:5
 write-number-add-result-2 : (t : ℕ) → write-number-lts.Need-add-result-2 (
   write-number-below t,
   write-number.Post,
 ) (write-number-at t) write-number.Post
 write-number-add-result-2 t c = ?
 
--- src/replies.rt:92:1
 write-number-same-length-2 : (t : ℕ) → write-number-lts.Need-same-length-2 (
   write-number-below t,
   write-number.Post,
 ) (write-number-at t) write-number.Post
 write-number-same-length-2 t c = ?
 
--- src/replies.rt:92:1
 write-number-returns-2 : (t : ℕ) → write-number-lts.Need-returns-2 (
   write-number-below t,
   write-number.Post,
 ) (write-number-at t) write-number.Post
-write-number-returns-2 t c = ?
+write-number-returns-2 t c = large-written (c .before .before .before .before .before .before .args .n) (c .before .before .before .before .if1 .left) (c .before .before .write-number .ensures)
 
 pub +write-number-spec : {M : Type 1} → statement M
 +write-number-spec = close μ-write-number λ t. write-number-lts.spec (
