@@ -164,8 +164,8 @@ module _ {before after : List ℕ} {at : ℕ} {text : List ℕ} {end : ℕ} (w :
   pub rest-unchanged : at + length text ≤ length before → after ≡ take at before ++ text ++ drop end before
   rest-unchanged l = rw (w .ended) (w .bytes ∙ sets-eq text before at l)
 
-  pub same-length : length after ≡ length before
-  same-length = rw (w .bytes) (length-sets before at text)
+  pub length-kept : length after ≡ length before
+  length-kept = rw (w .bytes) (length-sets before at text)
 
 sets-append : (ws : List ℕ) (at : ℕ) (xs ys : List ℕ) → sets (sets ws at xs) (at + length xs) ys ≡ sets ws at (xs ++ ys)
 sets-append ws at [] ys = rw add-zero
@@ -188,6 +188,9 @@ module _ {before between : List ℕ} {at : ℕ} {xs : List ℕ} {seam : ℕ} (w 
   pub then-byte : (x : ℕ) → Written before (set between seam x) at (xs ++ x ∷ []) (seam + 1)
   then-byte x = written-then w (one-byte between seam x)
 
+  pub room-left : at + length xs < length before → seam < length between
+  room-left l = omega (arith, length-kept w, w .ended)
+
 -- ## One number
 
 module _ (n : ℕ) where
@@ -198,9 +201,9 @@ module _ (n : ℕ) where
       → Written ws (set ws at (48 + n)) at (decimalDigits n) (at + 1)
   small-written ws at l = rw (digits-small n l) (one-byte ws at (48 + n))
 
-  pub large-room : {at room : ℕ} → 10 ≤ n → at + length (decimalDigits n) ≤ room
+  pub large-room : (at : ℕ) {room : ℕ} → 10 ≤ n → at + length (decimalDigits n) ≤ room
       → at + length (decimalDigits (n / 10)) < room
-  large-room l h = let h₁ = rw (digits-large n l, length-append) at h in omega arith
+  large-room at l h = let h₁ = rw (digits-large n l, length-append) at h in omega arith
 
   pub large-written : {before between : List ℕ} {at seam : ℕ} → 10 ≤ n
       → Written before between at (decimalDigits (n / 10)) seam
@@ -209,13 +212,18 @@ module _ (n : ℕ) where
 
 -- ## Four numbers
 
-module _ {before between : List ℕ} {at n x : ℕ} {seam : ℕ} (w : Written before between at (decimalDigits n ++ x ∷ []) seam) where
-  -- It took eleven bytes at most.
-  pub next-room : (more : ℕ) → n < 2 ^ 32 → at + (11 + more) ≤ length before → seam + more ≤ length between
-  next-room more l h =
-      let e = w .ended ∙ ap (λ (k : ℕ). at + k) (length-append (decimalDigits n) (x ∷ [])) in
-      omega (arith, e, ten-digits n l, same-length w)
+module _
+    (n x : ℕ)
+    {before between : List ℕ}
+    {at seam : ℕ}
+    (w : Written before between at (decimalDigits n ++ x ∷ []) seam)
+  where
+    -- It took eleven bytes at most.
+    pub next-room : (more : ℕ) → n < 2 ^ 32 → at + (11 + more) ≤ length before → seam + more ≤ length between
+    next-room more l h =
+        let e = w .ended ∙ ap (λ (k : ℕ). at + k) (length-append (decimalDigits n) (x ∷ [])) in
+        omega (arith, e, ten-digits n l, length-kept w)
 
-  pub then-text : {after text : List ℕ} {end : ℕ} → Written between after seam text end
-      → Written before after at (decimalDigits n ++ x ∷ text) end
-  then-text {after} {text} v = rw (← append-snoc (decimalDigits n) x text) (written-then w v)
+    pub then-text : {after text : List ℕ} {end : ℕ} → Written between after seam text end
+        → Written before after at (decimalDigits n ++ x ∷ text) end
+    then-text {after} {text} v = rw (← append-snoc (decimalDigits n) x text) (written-then w v)

@@ -1,7 +1,7 @@
 -- `lines::replies::write_number` meets its contract. Assumes nothing.
 use native.Mathlib.Omega.{arith}
 use borrow.Author.Needs.{needs}
-use Rattle.lines.specs.Writing.{small-room, small-written, large-room, large-written, same-length}
+use Rattle.lines.specs.Writing.{small-room, small-written, large-room, large-written, room-left, length-kept}
 use Prim.Native.Nat.{ℕ, _<_}
 use borrow.Fn.Kinds.{In}
 use borrow.Fn.PlainCycle.{Measures, is, falls, and}
@@ -66,7 +66,7 @@ write-number-write-number-requires : (t : ℕ) → write-number-lts.Need-write-n
   write-number-below t,
   write-number.Post,
 ) (write-number-at t) write-number.Post
-write-number-write-number-requires t c κs = (omega (arith, c .before .before .before .pre .0), omega (arith, large-room (c .before .before .before .args .n) (c .before .if1 .left) (c .before .before .before .pre .1)))
+write-number-write-number-requires t c κs = (omega (arith, c .before .before .before .pre .0), omega (arith, large-room (c .before .before .before .args .n) (c .before .before .before .args .at) (c .before .if1 .left) (c .before .before .before .pre .1)))
 
 write-number-cast-out-2 : (t : ℕ) → write-number-lts.Need-cast-out-2 (
   write-number-below t,
@@ -84,19 +84,19 @@ write-number-slice-write-out-2 : (t : ℕ) → write-number-lts.Need-slice-write
   write-number-below t,
   write-number.Post,
 ) (write-number-at t) write-number.Post
-write-number-slice-write-out-2 t c = ?
+write-number-slice-write-out-2 t c = room-left (c .before .before .write-number .ensures) (large-room (c .before .before .before .before .before .before .args .n) (c .before .before .before .before .before .before .args .at) (c .before .before .before .before .if1 .left) (c .before .before .before .before .before .before .pre .1))
 
 write-number-add-result-2 : (t : ℕ) → write-number-lts.Need-add-result-2 (
   write-number-below t,
   write-number.Post,
 ) (write-number-at t) write-number.Post
-write-number-add-result-2 t c = ?
+write-number-add-result-2 t c = omega (arith, room-left (c .before .before .write-number .ensures) (large-room (c .before .before .before .before .before .before .args .n) (c .before .before .before .before .before .before .args .at) (c .before .before .before .before .if1 .left) (c .before .before .before .before .before .before .pre .1)))
 
 write-number-same-length-2 : (t : ℕ) → write-number-lts.Need-same-length-2 (
   write-number-below t,
   write-number.Post,
 ) (write-number-at t) write-number.Post
-write-number-same-length-2 t c = ?
+write-number-same-length-2 t c = length-kept (large-written (c .before .before .before .before .before .before .args .n) (c .before .before .before .before .if1 .left) (c .before .before .write-number .ensures))
 
 write-number-returns-2 : (t : ℕ) → write-number-lts.Need-returns-2 (
   write-number-below t,

@@ -23,7 +23,7 @@ refused-requires c κs = search needs
 
 returns : tie.Need-returns
 returns c =
-    let g = c .before .before .reply .given .0 in
+    let g = c .before .before .reply .given .0 .0 in
     ap (λ (action : ℕ). 0 ∷ g .shape ∷ action ∷ g .transitions ∷ []) (c .action-number .ensures)
     ∙ sym (ap (λ (r : ShapeReply). fourNumbers (shapeReply r)) (c .before .before .reply .given .1))
 

@@ -1,29 +1,24 @@
+-- `lines::replies::write_ended` meets its contract. Assumes nothing.
+use Rattle.lines.specs.Writing.{ten-digits, then-byte, room-left, length-kept}
+use native.Mathlib.Omega.{arith}
 use borrow.Author.Needs.{needs}
 use Rattle.lines.proofs.replies.write_ended.Statement.{statement}
 use Rattle.lines.proofs.replies.write_ended.Tie as tie
-use Rattle.lines.proofs.replies.write_ended.Reads as reads
-use Rattle.lines.proofs.replies.write_ended.Lts as lts
-use Rattle.lines.proofs.replies.write_number.Reads as write-number-reads
 
--- src/replies.rt:115:9
 write-number-requires : tie.Need-write-number-requires
-write-number-requires c κs = search needs
+write-number-requires c κs = omega (arith, ten-digits (c .before .before .args .n) (c .before .before .fits .n .fits))
 
--- src/replies.rt:116:5
 slice-write-out : tie.Need-slice-write-out
-slice-write-out c = search needs
+slice-write-out c = room-left (c .before .before .write-number .ensures) (omega (arith, ten-digits (c .before .before .before .before .before .args .n) (c .before .before .before .before .before .fits .n .fits)))
 
--- src/replies.rt:117:5
 add-result : tie.Need-add-result
-add-result c = search needs
+add-result c = omega (arith, room-left (c .before .before .write-number .ensures) (omega (arith, ten-digits (c .before .before .before .before .before .args .n) (c .before .before .before .before .before .fits .n .fits))))
 
--- src/replies.rt:109:1
 same-length : tie.Need-same-length
-same-length c = search needs
+same-length c = length-kept (then-byte (c .before .before .write-number .ensures) (c .before .before .before .before .before .args .ending))
 
--- src/replies.rt:109:1
 returns : tie.Need-returns
-returns c = search needs
+returns c = then-byte (c .before .before .write-number .ensures) (c .before .before .before .before .before .args .ending)
 
 pub write-ended-spec : {M : Type 1} → statement M
 write-ended-spec =
