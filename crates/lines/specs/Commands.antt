@@ -8,8 +8,8 @@ use Rattle.rules.specs.Calls.{release, sweep}
 use Rattle.lines.specs.declared.Command.{Command}
 use Rattle.lines.specs.declared.Command.the-variants.{Root, Unique, Insert, Change, Remove, Prototype}
 use Rattle.lines.specs.declared.Command.the-variants.{Release, Sweep, BadLine}
-use Rattle.lines.specs.declared.Numbers.{Numbers}
-use Rattle.lines.specs.declared.Numbers.the-variants.{Zero, One, Two, Three, Bad}
+use Rattle.lines.specs.declared.reading.Numbers.{Numbers}
+use Rattle.lines.specs.declared.reading.Numbers.the-variants.{Zero, One, Two, Three, Bad}
 use Rattle.lines.specs.declared.replies.FourNumbers.{FourNumbers}
 
 -- The call that a line asks for, none of a bad line.

@@ -18,11 +18,11 @@ use Rattle.store.specs.Layout.{within}
 use Rattle.rules.specs.Runner.{space, onFirst, parts, decimal, below2^32, both, numbers, formed}
 use Rattle.rules.specs.Runner.{command, lineCall}
 use Rattle.lines.specs.declared.Command.{Command}
-use Rattle.lines.specs.declared.NumberAt.{NumberAt}
-use Rattle.lines.specs.declared.NumberRead.{NumberRead}
-use Rattle.lines.specs.declared.NumberRead.the-variants.{Reads, Bad as no-number}
-use Rattle.lines.specs.declared.Numbers.{Numbers}
-use Rattle.lines.specs.declared.Numbers.the-variants.{Zero, One, Two, Three, Bad}
+use Rattle.lines.specs.declared.reading.NumberAt.{NumberAt}
+use Rattle.lines.specs.declared.reading.NumberRead.{NumberRead}
+use Rattle.lines.specs.declared.reading.NumberRead.the-variants.{Reads, Bad as no-number}
+use Rattle.lines.specs.declared.reading.Numbers.{Numbers}
+use Rattle.lines.specs.declared.reading.Numbers.the-variants.{Zero, One, Two, Three, Bad}
 use Rattle.lines.specs.Commands.{commandCall, listed}
 
 -- ## One number

@@ -1,4 +1,5 @@
 // Document 01, "The step runner": one line of its input, and the four numbers of its answer.
+use crate::reading::Numbers;
 use crate::reading::read_numbers;
 ghost use mathlib.Core.Path.{_≡_};
 ghost use mathlib.Core.List.{[], _∷_};
@@ -37,26 +38,6 @@ pub enum Command {
     Release(u32),
     Sweep,
     BadLine,
-}
-
-// A number, and the position after it.
-pub struct NumberAt {
-    pub value: u32,
-    pub end: usize,
-}
-
-pub enum NumberRead {
-    Reads(NumberAt),
-    Bad,
-}
-
-// The numbers of a line. No line has more than three.
-pub enum Numbers {
-    Zero,
-    One(u32),
-    Two(u32, u32),
-    Three(u32, u32, u32),
-    Bad,
 }
 
 fn without_numbers(letter: u8) -> Command

@@ -1,7 +1,4 @@
 // The numbers after a line's letter: "Decimal, leading zeros allowed, single spaces, .. numbers below 2^32".
-use crate::NumberAt;
-use crate::NumberRead;
-use crate::Numbers;
 ghost use mathlib.Core.Path.{_≡_};
 ghost use Prim.Native.Nat.{_≤_, _<_};
 ghost use lib.ListN.{length, drop};
@@ -10,6 +7,26 @@ ghost use Rattle.lines.specs.Commands.{listed};
 ghost use Rattle.lines.specs.Reading.{stops, following, atMostThree, withNumber, ReadsOn};
 
 const SPACE: u8 = b' ';
+
+// A number, and the position after it.
+struct NumberAt {
+    value: u32,
+    end: usize,
+}
+
+enum NumberRead {
+    Reads(NumberAt),
+    Bad,
+}
+
+// No line has more than three.
+pub enum Numbers {
+    Zero,
+    One(u32),
+    Two(u32, u32),
+    Three(u32, u32, u32),
+    Bad,
+}
 
 // A number ends at the next space or at the end of the line.
 fn stops_at(line: &[u8], at: usize) -> bool

@@ -1,12 +1,5 @@
 -- `lines::command_of` meets its contract. Assumes nothing.
-use mathlib.Core.List.{List, [], _∷_}
-use mathlib.Core.Option.{Option}
-use mathlib.Core.Path.{sym, ap, _∙_}
-use Prim.Native.Nat.{ℕ}
 use borrow.Author.Needs.{needs}
-use Rattle.rules.specs.Runner.{formed}
-use Rattle.lines.specs.Commands.{listed}
-use Rattle.lines.specs.declared.Numbers.{Numbers}
 use Rattle.lines.proofs.command_of.Statement.{statement}
 use Rattle.lines.proofs.command_of.Tie as tie
 
@@ -38,20 +31,16 @@ enum-told-2 : tie.Need-enum-told-2
 enum-told-2 c = search needs
 
 returns : tie.Need-returns
-returns c =
-    c .without-numbers .ensures ∙ ap (λ (r : Numbers). formed (c .before .before .before .args .letter ∷ []) (listed r)) (sym (c .before .enum-told .given .1))
+returns c = rw (c .before .enum-told .given .1) (c .without-numbers .ensures)
 
 returns-2 : tie.Need-returns-2
-returns-2 c =
-    c .with-one .ensures ∙ ap (λ (r : Numbers). formed (c .before .before .before .before .args .letter ∷ []) (listed r)) (sym (c .before .before .numbers .given .1))
+returns-2 c = rw (c .before .before .numbers .given .1) (c .with-one .ensures)
 
 returns-3 : tie.Need-returns-3
-returns-3 c =
-    c .with-two .ensures ∙ ap (λ (r : Numbers). formed (c .before .before .before .before .args .letter ∷ []) (listed r)) (sym (c .before .before .numbers2 .given .1))
+returns-3 c = rw (c .before .before .numbers2 .given .1) (c .with-two .ensures)
 
 returns-4 : tie.Need-returns-4
-returns-4 c =
-    c .with-three .ensures ∙ ap (λ (r : Numbers). formed (c .before .before .before .before .args .letter ∷ []) (listed r)) (sym (c .before .before .numbers3 .given .1))
+returns-4 c = rw (c .before .before .numbers3 .given .1) (c .with-three .ensures)
 
 returns-5 : tie.Need-returns-5
 returns-5 c = search needs

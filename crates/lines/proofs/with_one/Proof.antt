@@ -1,16 +1,11 @@
 -- `lines::with_one` meets its contract. Assumes nothing.
 use mathlib.Core.Bool.{and-false}
-use mathlib.Core.List.{[], _∷_}
-use mathlib.Core.Option.{some}
-use mathlib.Core.Path.{sym, ap}
-use Prim.Native.Nat.{ℕ}
 use borrow.Author.Tests.{ne-eqb}
-use Rattle.rules.specs.Runner.{formed}
 use Rattle.lines.proofs.with_one.Statement.{statement}
 use Rattle.lines.proofs.with_one.Tie as tie
 
 returns : tie.Need-returns
-returns c = sym (ap (λ (l : ℕ). formed (l ∷ []) (some (c .before .args .shape ∷ []))) (c .match .keys1))
+returns c = rw (c .match .keys1)
 
 returns-2 : tie.Need-returns-2
 returns-2 c = simp (ne-eqb _ 70 (c .match .rest .1), and-false)

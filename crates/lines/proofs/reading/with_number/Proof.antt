@@ -1,9 +1,5 @@
 -- `lines::reading::with_number` meets its contract. Assumes nothing.
-use mathlib.Core.Path.{sym, ap}
-use Prim.Native.Nat.{ℕ}
 use borrow.Author.Needs.{needs}
-use Rattle.lines.specs.Reading.{withNumber}
-use Rattle.lines.specs.declared.Numbers.{Numbers}
 use Rattle.lines.proofs.reading.with_number.Statement.{statement}
 use Rattle.lines.proofs.reading.with_number.Tie as tie
 
@@ -23,13 +19,13 @@ enum-told-3 : tie.Need-enum-told-3
 enum-told-3 c = search needs
 
 returns : tie.Need-returns
-returns c = sym (ap (λ (r : Numbers). withNumber r (c .before .before .args .value)) (c .enum-told .given .1))
+returns c = rw (c .enum-told .given .1)
 
 returns-2 : tie.Need-returns-2
-returns-2 c = sym (ap (λ (r : Numbers). withNumber r (c .before .before .before .args .value)) (c .before .numbers .given .1))
+returns-2 c = rw (c .before .numbers .given .1)
 
 returns-3 : tie.Need-returns-3
-returns-3 c = sym (ap (λ (r : Numbers). withNumber r (c .before .before .before .args .value)) (c .before .numbers2 .given .1))
+returns-3 c = rw (c .before .numbers2 .given .1)
 
 returns-4 : tie.Need-returns-4
 returns-4 c = search needs

@@ -1,9 +1,5 @@
 -- `lines::replies::sweep_numbers` meets its contract. Assumes nothing.
-use mathlib.Core.Path.{sym, ap, _∙_}
 use borrow.Author.Needs.{needs}
-use Rattle.rules.specs.Runner.{fourNumbers}
-use Rattle.rules.specs.Replies.{sweepReply}
-use Rattle.rules.specs.declared.SweepReply.{SweepReply}
 use Rattle.lines.proofs.replies.sweep_numbers.Statement.{statement}
 use Rattle.lines.proofs.replies.sweep_numbers.Tie as tie
 
@@ -17,10 +13,10 @@ refused-requires : tie.Need-refused-requires
 refused-requires c κs = search needs
 
 returns : tie.Need-returns
-returns c = sym (ap (λ (r : SweepReply). fourNumbers (sweepReply r)) (c .before .reply .given .1))
+returns c = rw (c .before .reply .given .1)
 
 returns-2 : tie.Need-returns-2
-returns-2 c = c .refused .ensures ∙ sym (ap (λ (r : SweepReply). fourNumbers (sweepReply r)) (c .before .before .reply2 .given .1))
+returns-2 c = rw (c .before .before .reply2 .given .1) (c .refused .ensures)
 
 pub sweep-numbers-spec : {M : Type 1} → statement M
 sweep-numbers-spec =
