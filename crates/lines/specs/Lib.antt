@@ -1,3 +1,4 @@
 pub mod Commands
 pub mod Reading
+pub mod Lines
 pub mod Writing

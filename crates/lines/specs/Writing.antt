@@ -16,7 +16,6 @@ use lib.Seq.{sets, length-sets, sets-eq, append-snoc}
 use Rattle.store.specs.Layout.{within}
 use Rattle.store.specs.ListLaws.{Decided, either, both-and}
 use Rattle.rules.specs.Runner.{space, lineFeed, decimal, below2^32, number}
-use Rattle.lines.specs.Reading.{decimal-digit}
 
 -- ## Decimal
 
@@ -92,6 +91,15 @@ pub ten-digits : (n : ℕ) → n < 2 ^ 32 → length (decimalDigits n) ≤ 10
 ten-digits n l = few-digits 9 n (omega arith)
 
 -- ## Read back
+
+decimal-digit : (v d : ℕ) (ds : List ℕ) → within 48 57 d ≡ true
+    → decimal v (d ∷ ds) ≡ decimal (10 * v + (d - 48)) ds
+decimal-digit v d ds = go (within 48 57 d)
+  where
+    go : (t : Bool) → t ≡ true
+        → elim t [ true ↦ decimal (10 * v + (d - 48)) ds | false ↦ none ] ≡ decimal (10 * v + (d - 48)) ds
+    go true e = refl
+    go false e = absurd (false≢true e)
 
 decimal-append : (v : ℕ) (ds : List ℕ) (d w : ℕ) → within 48 57 d ≡ true → decimal v ds ≡ some w
     → decimal v (ds ++ d ∷ []) ≡ some (10 * w + (d - 48))

@@ -4,9 +4,13 @@ ghost use Prim.Native.Nat.{_≤_, _<_};
 ghost use lib.ListN.{length, drop};
 ghost use Rattle.store.specs.Layout.{within};
 ghost use Rattle.lines.specs.Commands.{listed};
-ghost use Rattle.lines.specs.Reading.{stops, following, atMostThree, withNumber, ReadsOn};
+ghost use Rattle.lines.specs.Reading.{stops, following, ReadsOn};
+ghost use Rattle.lines.specs.Lines.{atMostThree, withNumber};
 
 const SPACE: u8 = b' ';
+
+// "numbers below 2^32"
+const BOUND: u64 = 1 << 32;
 
 // A number, and the position after it.
 struct NumberAt {
@@ -43,7 +47,7 @@ fn stops_at(line: &[u8], at: usize) -> bool
 fn is_digit(byte: u8) -> bool
     ensures { λ r. ⌜ r ≡ within 48 57 byte ⌝ }
 {
-    (48 <= byte) & (byte <= 57)
+    (b'0' <= byte) & (byte <= b'9')
 }
 
 fn read_number(line: &[u8], start: usize) -> NumberRead
@@ -60,8 +64,8 @@ fn read_number(line: &[u8], start: usize) -> NumberRead
         if !is_digit(byte) {
             return NumberRead::Bad;
         }
-        value = 10 * value + (byte - 48) as u64;
-        if value > 4294967295 {
+        value = 10 * value + (byte - b'0') as u64;
+        if value >= BOUND {
             return NumberRead::Bad;
         }
         end += 1;

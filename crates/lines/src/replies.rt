@@ -97,11 +97,11 @@ fn write_number(out: &mut [u8], at: usize, n: u32) -> usize
     ensures { λ r. ⌜ Written (now (out .entry)) (now (out .exit)) at (decimalDigits n) r ⌝ }
 {
     if n < 10 {
-        out[at] = 48 + n as u8;
+        out[at] = b'0' + n as u8;
         return at + 1;
     }
     let end = write_number(out, at, n / 10);
-    out[end] = 48 + (n % 10) as u8;
+    out[end] = b'0' + (n % 10) as u8;
     end + 1
 }
 

@@ -1,8 +1,8 @@
 -- `lines::read_line` meets its contract. Assumes nothing.
-use Rattle.lines.specs.Reading.{line-read, no-line, too-long}
-use native.Mathlib.Omega.{arith}
 use mathlib.Core.Path.{refl}
+use native.Mathlib.Omega.{arith}
 use borrow.Author.Needs.{needs}
+use Rattle.lines.specs.Lines.{line-read, no-line, too-long}
 use Rattle.lines.proofs.read_line.Statement.{statement}
 use Rattle.lines.proofs.read_line.Tie as tie
 
@@ -23,8 +23,11 @@ command-of-requires c κs = search needs
 
 returns-3 : tie.Need-returns-3
 returns-3 c =
-    line-read (c .before .before .before .before .before .before .args .line .now) (c .before .read-numbers .result) (c .command-of .result) (omega (arith, c .before .before .before .before .if1 .left)) (c .before .before .before .if2 .left) refl
-    (c .before .read-numbers .ensures) (c .command-of .ensures)
+    let start = c .before .before .before .before .before .before in
+    let some-byte = c .before .before .before .before .if1 .left in
+    let read = c .before .read-numbers in
+    line-read (start .args .line .now) (read .result) (c .command-of .result) (omega (arith, some-byte))
+    (c .before .before .before .if2 .left) refl (read .ensures) (c .command-of .ensures)
 
 pub read-line-spec : {M : Type 1} → statement M
 read-line-spec =

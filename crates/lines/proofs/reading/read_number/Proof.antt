@@ -1,12 +1,12 @@
 -- `lines::reading::read_number` meets its contract. Assumes nothing.
-use Rattle.lines.specs.Reading.{digit-range, digit-bad, digit-big, digit-on}
-use Rattle.lines.specs.Reading.{Digits, number-empty, number-begins, number-done, byte-there}
-use lib.ListN.{length, getD}
-use borrow.Author.Tests.{not-true, not-false}
-use native.Mathlib.Omega.{arith}
 use mathlib.Core.Path.{refl, sym, _∙_}
 use Prim.Native.Nat.{_-_}
+use native.Mathlib.Omega.{arith}
 use borrow.Author.Needs.{needs}
+use borrow.Author.Tests.{not-true, not-false}
+use lib.ListN.{length, getD}
+use Rattle.lines.specs.Reading.{Digits, number-empty, number-begins, number-done, byte-there}
+use Rattle.lines.specs.Reading.{digit-range, digit-bad, digit-big, digit-on}
 use Rattle.lines.proofs.reading.read_number.Statement.{statement}
 use Rattle.lines.proofs.reading.read_number.Tie as tie
 
@@ -29,43 +29,82 @@ stops-at-requires-2 : tie.Need-stops-at-requires-2 Inv-loop μ-loop
 stops-at-requires-2 c κs = c .loop .inv .to
 
 shared-slice-read-byte : tie.Need-shared-slice-read-byte Inv-loop μ-loop
-shared-slice-read-byte c = byte-there (c .before .before .before .loop .inv) (c .before .before .stops-at2 .ensures) (not-true _ (c .before .if2 .taken))
+shared-slice-read-byte c =
+    byte-there (c .before .before .before .loop .inv) (c .before .before .stops-at2 .ensures) (not-true _ (c .before .if2 .taken))
 
 is-digit-requires : tie.Need-is-digit-requires Inv-loop μ-loop
 is-digit-requires c κs = search needs
 
 returns-2 : tie.Need-returns-2 Inv-loop μ-loop
-returns-2 c = digit-bad (c .before .before .before .before .before .loop .inv) (c .before .before .before .before .stops-at2 .ensures) (not-true _ (c .before .before .before .if2 .taken)) refl (sym (c .before .is-digit .ensures) ∙ not-true _ (c .if3 .taken))
+returns-2 c =
+    let loop = c .before .before .before .before .before .loop in
+    let stops-at = c .before .before .before .before .stops-at2 in
+    let going = not-true _ (c .before .before .before .if2 .taken) in
+    digit-bad (loop .inv) (stops-at .ensures) going refl (sym (c .before .is-digit .ensures) ∙ not-true _ (c .if3 .taken))
 
 mul-value : tie.Need-mul-value Inv-loop μ-loop
 mul-value c = omega (arith, c .before .before .before .before .before .loop .inv .small)
 
 sub-value : tie.Need-sub-value Inv-loop μ-loop
-sub-value c = digit-range (getD (c .before .before .before .before .before .before .before .before .before .args .line .now) (c .before .before .before .before .before .loop .end) 0) (sym (c .before .is-digit .ensures) ∙ not-false _ (c .if3 .left)) .0
+sub-value c =
+    let start = c .before .before .before .before .before .before .before .before .before in
+    let loop = c .before .before .before .before .before .loop in
+    let digit = sym (c .before .is-digit .ensures) ∙ not-false _ (c .if3 .left) in
+    let range = digit-range (getD (start .args .line .now) (loop .end) 0) digit in
+    range .0
 
 cast-value : tie.Need-cast-value Inv-loop μ-loop
-cast-value c = omega (arith, digit-range (getD (c .before .before .before .before .before .before .before .before .before .args .line .now) (c .before .before .before .before .before .loop .end) 0) (sym (c .before .is-digit .ensures) ∙ not-false _ (c .if3 .left)))
+cast-value c =
+    let start = c .before .before .before .before .before .before .before .before .before in
+    let loop = c .before .before .before .before .before .loop in
+    let digit = sym (c .before .is-digit .ensures) ∙ not-false _ (c .if3 .left) in
+    let range = digit-range (getD (start .args .line .now) (loop .end) 0) digit in
+    omega arith
 
 add-value : tie.Need-add-value Inv-loop μ-loop
-add-value c = omega (arith, c .before .before .before .before .before .loop .inv .small, digit-range (getD (c .before .before .before .before .before .before .before .before .before .args .line .now) (c .before .before .before .before .before .loop .end) 0) (sym (c .before .is-digit .ensures) ∙ not-false _ (c .if3 .left)))
+add-value c =
+    let start = c .before .before .before .before .before .before .before .before .before in
+    let loop = c .before .before .before .before .before .loop in
+    let digit = sym (c .before .is-digit .ensures) ∙ not-false _ (c .if3 .left) in
+    let range = digit-range (getD (start .args .line .now) (loop .end) 0) digit in
+    omega (arith, loop .inv .small)
 
 returns-3 : tie.Need-returns-3 Inv-loop μ-loop
-returns-3 c = digit-big (c .before .before .before .before .before .before .loop .inv) (c .before .before .before .before .before .stops-at2 .ensures) (not-true _ (c .before .before .before .before .if2 .taken)) refl (sym (c .before .before .is-digit .ensures) ∙ not-false _ (c .before .if3 .left)) (c .if4 .taken)
+returns-3 c =
+    let loop = c .before .before .before .before .before .before .loop in
+    let stops-at = c .before .before .before .before .before .stops-at2 in
+    let going = not-true _ (c .before .before .before .before .if2 .taken) in
+    let digit = sym (c .before .before .is-digit .ensures) ∙ not-false _ (c .before .if3 .left) in
+    digit-big (loop .inv) (stops-at .ensures) going refl digit (c .if4 .taken)
 
 add-end : tie.Need-add-end Inv-loop μ-loop
-add-end c = omega (arith, byte-there (c .before .before .before .before .before .before .loop .inv) (c .before .before .before .before .before .stops-at2 .ensures) (not-true _ (c .before .before .before .before .if2 .taken)))
+add-end c =
+    let loop = c .before .before .before .before .before .before .loop in
+    let stops-at = c .before .before .before .before .before .stops-at2 in
+    let going = not-true _ (c .before .before .before .before .if2 .taken) in
+    omega (arith, byte-there (loop .inv) (stops-at .ensures) going)
 
 loop-less : tie.Need-loop-less Inv-loop μ-loop
-loop-less c = omega (arith, byte-there (c .before .before .before .before .before .before .loop .inv) (c .before .before .before .before .before .stops-at2 .ensures) (not-true _ (c .before .before .before .before .if2 .taken)))
+loop-less c =
+    let loop = c .before .before .before .before .before .before .loop in
+    let stops-at = c .before .before .before .before .before .stops-at2 in
+    let going = not-true _ (c .before .before .before .before .if2 .taken) in
+    omega (arith, byte-there (loop .inv) (stops-at .ensures) going)
 
 loop-again : tie.Need-loop-again Inv-loop μ-loop
-loop-again c = digit-on (c .before .before .before .before .before .before .loop .inv) (c .before .before .before .before .before .stops-at2 .ensures) (not-true _ (c .before .before .before .before .if2 .taken)) refl (sym (c .before .before .is-digit .ensures) ∙ not-false _ (c .before .if3 .left)) (c .if4 .left)
+loop-again c =
+    let loop = c .before .before .before .before .before .before .loop in
+    let stops-at = c .before .before .before .before .before .stops-at2 in
+    let going = not-true _ (c .before .before .before .before .if2 .taken) in
+    let digit = sym (c .before .before .is-digit .ensures) ∙ not-false _ (c .before .if3 .left) in
+    digit-on (loop .inv) (stops-at .ensures) going refl digit (c .if4 .left)
 
 cast-t13 : tie.Need-cast-t13 Inv-loop μ-loop
 cast-t13 c = omega (arith, c .before .before .loop .inv .small)
 
 returns-4 : tie.Need-returns-4 Inv-loop μ-loop
-returns-4 c = number-done (c .before .before .loop .inv) (c .before .stops-at2 .ensures) (not-false _ (c .if2 .left))
+returns-4 c =
+    number-done (c .before .before .loop .inv) (c .before .stops-at2 .ensures) (not-false _ (c .if2 .left))
 
 pub read-number-spec : {M : Type 1} → statement M
 read-number-spec =

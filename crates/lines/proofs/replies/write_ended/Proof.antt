@@ -1,24 +1,34 @@
 -- `lines::replies::write_ended` meets its contract. Assumes nothing.
-use Rattle.lines.specs.Writing.{ten-digits, then-byte, room-left, length-kept}
 use native.Mathlib.Omega.{arith}
-use borrow.Author.Needs.{needs}
+use Rattle.lines.specs.Writing.{ten-digits, then-byte, room-left, length-kept}
 use Rattle.lines.proofs.replies.write_ended.Statement.{statement}
 use Rattle.lines.proofs.replies.write_ended.Tie as tie
 
 write-number-requires : tie.Need-write-number-requires
-write-number-requires c κs = omega (arith, ten-digits (c .before .before .args .n) (c .before .before .fits .n .fits))
+write-number-requires c κs =
+    let start = c .before .before in
+    omega (arith, ten-digits (start .args .n) (start .fits .n .fits))
 
 slice-write-out : tie.Need-slice-write-out
-slice-write-out c = room-left (c .before .before .write-number .ensures) (omega (arith, ten-digits (c .before .before .before .before .before .args .n) (c .before .before .before .before .before .fits .n .fits)))
+slice-write-out c =
+    let start = c .before .before .before .before .before in
+    room-left (c .before .before .write-number .ensures) (omega (arith, ten-digits (start .args .n) (start .fits .n .fits)))
 
 add-result : tie.Need-add-result
-add-result c = omega (arith, room-left (c .before .before .write-number .ensures) (omega (arith, ten-digits (c .before .before .before .before .before .args .n) (c .before .before .before .before .before .fits .n .fits))))
+add-result c =
+    let start = c .before .before .before .before .before in
+    let digits = ten-digits (start .args .n) (start .fits .n .fits) in
+    omega (arith, room-left (c .before .before .write-number .ensures) (omega arith))
 
 same-length : tie.Need-same-length
-same-length c = length-kept (then-byte (c .before .before .write-number .ensures) (c .before .before .before .before .before .args .ending))
+same-length c =
+    let start = c .before .before .before .before .before in
+    length-kept (then-byte (c .before .before .write-number .ensures) (start .args .ending))
 
 returns : tie.Need-returns
-returns c = then-byte (c .before .before .write-number .ensures) (c .before .before .before .before .before .args .ending)
+returns c =
+    let start = c .before .before .before .before .before in
+    then-byte (c .before .before .write-number .ensures) (start .args .ending)
 
 pub write-ended-spec : {M : Type 1} → statement M
 write-ended-spec =

@@ -1,7 +1,6 @@
 -- `lines::replies::write_reply` meets its contract. Assumes nothing.
-use Rattle.lines.specs.Writing.{next-room, then-text, length-kept}
 use native.Mathlib.Omega.{arith}
-use borrow.Author.Needs.{needs}
+use Rattle.lines.specs.Writing.{next-room, then-text, length-kept}
 use Rattle.lines.proofs.replies.write_reply.Statement.{statement}
 use Rattle.lines.proofs.replies.write_reply.Tie as tie
 
@@ -9,19 +8,52 @@ write-ended-requires : tie.Need-write-ended-requires
 write-ended-requires c κs = omega (arith, c .before .before .pre)
 
 write-ended-requires-2 : tie.Need-write-ended-requires-2
-write-ended-requires-2 c κs = omega (arith, next-room (c .before .before .before .before .before .before .args .first) 32 (c .before .before .before .write-ended .ensures) 33 (c .before .before .before .before .before .before .fits .first .fits) (c .before .before .before .before .before .before .pre))
+write-ended-requires-2 c κs =
+    let start = c .before .before .before .before .before .before in
+    let first = c .before .before .before .write-ended .ensures in
+    let after-first = next-room (start .args .first) 32 first 33 (start .fits .first .fits) (start .pre) in
+    omega arith
 
 write-ended-requires-3 : tie.Need-write-ended-requires-3
-write-ended-requires-3 c κs = omega (arith, next-room (c .before .before .before .before .before .before .before .before .before .before .args .second) 32 (c .before .before .before .write-ended2 .ensures) 22 (c .before .before .before .before .before .before .before .before .before .before .fits .second .fits) (next-room (c .before .before .before .before .before .before .before .before .before .before .args .first) 32 (c .before .before .before .before .before .before .before .write-ended .ensures) 33 (c .before .before .before .before .before .before .before .before .before .before .fits .first .fits) (c .before .before .before .before .before .before .before .before .before .before .pre)))
+write-ended-requires-3 c κs =
+    let start = c .before .before .before .before .before .before .before .before .before .before in
+    let first = c .before .before .before .before .before .before .before .write-ended .ensures in
+    let second = c .before .before .before .write-ended2 .ensures in
+    let after-first = next-room (start .args .first) 32 first 33 (start .fits .first .fits) (start .pre) in
+    let after-second = next-room (start .args .second) 32 second 22 (start .fits .second .fits) after-first in
+    omega arith
 
 write-ended-requires-4 : tie.Need-write-ended-requires-4
-write-ended-requires-4 c κs = next-room (c .before .before .before .before .before .before .before .before .before .before .before .before .before .before .args .third) 32 (c .before .before .before .write-ended3 .ensures) 11 (c .before .before .before .before .before .before .before .before .before .before .before .before .before .before .fits .third .fits) (next-room (c .before .before .before .before .before .before .before .before .before .before .before .before .before .before .args .second) 32 (c .before .before .before .before .before .before .before .write-ended2 .ensures) 22 (c .before .before .before .before .before .before .before .before .before .before .before .before .before .before .fits .second .fits) (next-room (c .before .before .before .before .before .before .before .before .before .before .before .before .before .before .args .first) 32 (c .before .before .before .before .before .before .before .before .before .before .before .write-ended .ensures) 33 (c .before .before .before .before .before .before .before .before .before .before .before .before .before .before .fits .first .fits) (c .before .before .before .before .before .before .before .before .before .before .before .before .before .before .pre)))
+write-ended-requires-4 c κs =
+    let start = c .before .before .before .before .before .before .before .before .before .before .before .before .before .before in
+    let first = c .before .before .before .before .before .before .before .before .before .before .before .write-ended .ensures in
+    let second = c .before .before .before .before .before .before .before .write-ended2 .ensures in
+    let third = c .before .before .before .write-ended3 .ensures in
+    let after-first = next-room (start .args .first) 32 first 33 (start .fits .first .fits) (start .pre) in
+    let after-second = next-room (start .args .second) 32 second 22 (start .fits .second .fits) after-first in
+    let after-third = next-room (start .args .third) 32 third 11 (start .fits .third .fits) after-second in
+    after-third
 
 same-length : tie.Need-same-length
-same-length c = length-kept (then-text (c .before .before .before .before .before .before .before .before .before .before .before .before .before .before .before .before .before .args .first) 32 (c .before .before .before .before .before .before .before .before .before .before .before .before .before .before .write-ended .ensures) (then-text (c .before .before .before .before .before .before .before .before .before .before .before .before .before .before .before .before .before .args .second) 32 (c .before .before .before .before .before .before .before .before .before .before .write-ended2 .ensures) (then-text (c .before .before .before .before .before .before .before .before .before .before .before .before .before .before .before .before .before .args .third) 32 (c .before .before .before .before .before .before .write-ended3 .ensures) (c .before .before .write-ended4 .ensures))))
+same-length c =
+    let start = c .before .before .before .before .before .before .before .before .before .before .before .before .before .before .before .before .before in
+    let first = c .before .before .before .before .before .before .before .before .before .before .before .before .before .before .write-ended .ensures in
+    let second = c .before .before .before .before .before .before .before .before .before .before .write-ended2 .ensures in
+    let third = c .before .before .before .before .before .before .write-ended3 .ensures in
+    length-kept
+    (then-text (start .args .first) 32 first
+    (then-text (start .args .second) 32 second
+    (then-text (start .args .third) 32 third (c .before .before .write-ended4 .ensures))))
 
 returns : tie.Need-returns
-returns c = then-text (c .before .before .before .before .before .before .before .before .before .before .before .before .before .before .before .before .before .args .first) 32 (c .before .before .before .before .before .before .before .before .before .before .before .before .before .before .write-ended .ensures) (then-text (c .before .before .before .before .before .before .before .before .before .before .before .before .before .before .before .before .before .args .second) 32 (c .before .before .before .before .before .before .before .before .before .before .write-ended2 .ensures) (then-text (c .before .before .before .before .before .before .before .before .before .before .before .before .before .before .before .before .before .args .third) 32 (c .before .before .before .before .before .before .write-ended3 .ensures) (c .before .before .write-ended4 .ensures)))
+returns c =
+    let start = c .before .before .before .before .before .before .before .before .before .before .before .before .before .before .before .before .before in
+    let first = c .before .before .before .before .before .before .before .before .before .before .before .before .before .before .write-ended .ensures in
+    let second = c .before .before .before .before .before .before .before .before .before .before .write-ended2 .ensures in
+    let third = c .before .before .before .before .before .before .write-ended3 .ensures in
+    then-text (start .args .first) 32 first
+    (then-text (start .args .second) 32 second
+    (then-text (start .args .third) 32 third (c .before .before .write-ended4 .ensures)))
 
 pub write-reply-spec : {M : Type 1} → statement M
 write-reply-spec =
