@@ -159,7 +159,7 @@ module _
             else none)
         next =
             let left : drop end line ≡ b ∷ drop (end + 1) line =
-                rw (add-one, here) (drop-cons line end 0 byte-there) in
+            rw (add-one, here) (drop-cons line end 0 byte-there) in
             let no-space : eqb b space ≡ false = rw here (stop-within line byte-there ∙ sym read ∙ going) in
             d .same ∙ rw left (digit value b (drop (end + 1) line) no-space)
 

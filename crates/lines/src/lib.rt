@@ -76,8 +76,16 @@ fn with_three(letter: u8, shape: u32, key: u32, attributes: u32) -> Command
         ⌝ }
 {
     match letter {
-        b'I' => Command::Insert(KeyChange { shape, key, attributes }),
-        b'C' => Command::Change(KeyChange { shape, key, attributes }),
+        b'I' => Command::Insert(KeyChange {
+            shape,
+            key,
+            attributes,
+        }),
+        b'C' => Command::Change(KeyChange {
+            shape,
+            key,
+            attributes,
+        }),
         _ => Command::BadLine,
     }
 }

@@ -70,7 +70,10 @@ fn read_number(line: &[u8], start: usize) -> NumberRead
         }
         end += 1;
     }
-    NumberRead::Reads(NumberAt { value: value as u32, end })
+    NumberRead::Reads(NumberAt {
+        value: value as u32,
+        end,
+    })
 }
 
 fn with_number(numbers: Numbers, value: u32) -> Numbers

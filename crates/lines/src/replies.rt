@@ -11,8 +11,9 @@ ghost use lib.ListN.{length};
 ghost use Rattle.rules.specs.Refusals.{refusalNumber};
 ghost use Rattle.rules.specs.Runner.{actionNumber, fourNumbers};
 ghost use Rattle.rules.specs.Replies.{shapeReply, releaseReply, sweepReply};
-ghost use Rattle.lines.specs.Writing.{decimalDigits, replyText, Written};
 ghost use Rattle.lines.specs.Commands.{numbersOf};
+ghost use Rattle.lines.specs.Decimal.{decimalDigits};
+ghost use Rattle.lines.specs.Writing.{replyText, Written};
 
 pub struct FourNumbers {
     pub first: u32,
@@ -54,7 +55,12 @@ pub fn action_number(action: ChangeTransitionAction) -> u32
 fn refused(r: Refusal) -> FourNumbers
     ensures { λ n. ⌜ numbersOf n ≡ refusalNumber r ∷ 0 ∷ 0 ∷ 0 ∷ [] ⌝ }
 {
-    FourNumbers { first: refusal_number(r), second: 0, third: 0, fourth: 0 }
+    FourNumbers {
+        first: refusal_number(r),
+        second: 0,
+        third: 0,
+        fourth: 0,
+    }
 }
 
 pub fn shape_numbers(reply: ShapeReply) -> FourNumbers
@@ -78,7 +84,12 @@ pub fn release_numbers(reply: ReleaseReply) -> FourNumbers
     ensures { λ n. ⌜ numbersOf n ≡ fourNumbers (releaseReply reply) ⌝ }
 {
     match reply {
-        ReleaseReply::Releases => FourNumbers { first: 0, second: 0, third: 0, fourth: 0 },
+        ReleaseReply::Releases => FourNumbers {
+            first: 0,
+            second: 0,
+            third: 0,
+            fourth: 0,
+        },
         ReleaseReply::Refused(r) => refused(r),
     }
 }
@@ -87,7 +98,12 @@ pub fn sweep_numbers(reply: SweepReply) -> FourNumbers
     ensures { λ n. ⌜ numbersOf n ≡ fourNumbers (sweepReply reply) ⌝ }
 {
     match reply {
-        SweepReply::Frees(f) => FourNumbers { first: 0, second: f.shapes, third: f.tables, fourth: 0 },
+        SweepReply::Frees(f) => FourNumbers {
+            first: 0,
+            second: f.shapes,
+            third: f.tables,
+            fourth: 0,
+        },
         SweepReply::Refused(r) => refused(r),
     }
 }
@@ -118,7 +134,14 @@ fn write_ended(out: &mut [u8], at: usize, n: u32, ending: u8) -> usize
 }
 
 // From `at` on; answers where it ends.
-pub fn write_reply(out: &mut [u8], at: usize, first: u32, second: u32, third: u32, fourth: u32) -> usize
+pub fn write_reply(
+    out: &mut [u8],
+    at: usize,
+    first: u32,
+    second: u32,
+    third: u32,
+    fourth: u32,
+) -> usize
     requires { ⌜ at + 44 ≤ length (now out) ⌝ }
     ensures { λ r. ⌜
         Written (now (out .entry)) (now (out .exit)) at

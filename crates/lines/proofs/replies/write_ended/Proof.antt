@@ -1,6 +1,7 @@
 -- `lines::replies::write_ended` meets its contract. Assumes nothing.
 use native.Mathlib.Omega.{arith}
-use Rattle.lines.specs.Writing.{ten-digits, then-byte, room-left, length-kept}
+use Rattle.lines.specs.Decimal.{ten-digits}
+use Rattle.lines.specs.Writing.{then-byte, room-left, length-kept}
 use Rattle.lines.proofs.replies.write_ended.Statement.{statement}
 use Rattle.lines.proofs.replies.write_ended.Tie as tie
 
