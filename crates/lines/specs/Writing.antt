@@ -1,7 +1,7 @@
 -- The text of an answer, and bytes written one after the other.
 -- Assumes nothing.
 use mathlib.Core.List.{List, [], _∷_, _++_}
-use mathlib.Core.Path.{_≡_, refl, ap, _∙_}
+use mathlib.Core.Path.{_≡_, refl, _∙_}
 use Prim.Native.Nat.{ℕ, suc, _+_, _/_, _%_, _^_, _≤_, _<_}
 use native.Mathlib.Nat.{add-zero, add-suc, suc-add}
 use native.Mathlib.Omega.{arith}
@@ -37,6 +37,9 @@ module _ {before after : List ℕ} {at : ℕ} {text : List ℕ} {end : ℕ} (w :
   pub length-kept : length after ≡ length before
   length-kept = rw (w .stored) (length-sets before at text)
 
+  pub room-left : at + length text < length before → end < length after
+  room-left l = omega (arith, length-kept, w .ended)
+
 sets-append : (ws : List ℕ) (at : ℕ) (xs ys : List ℕ)
     → sets (sets ws at xs) (at + length xs) ys ≡ sets ws at (xs ++ ys)
 sets-append ws at [] ys = rw add-zero
@@ -55,12 +58,9 @@ written-then {before} {between} {after} {at} {xs} {seam} {ys} {end} w v =
 one-byte : (ws : List ℕ) (at x : ℕ) → Written ws (set ws at x) at (x ∷ []) (at + 1)
 one-byte ws at x = record { stored = refl; ended = refl }
 
-module _ {before between : List ℕ} {at : ℕ} {xs : List ℕ} {seam : ℕ} (w : Written before between at xs seam) where
-  pub then-byte : (x : ℕ) → Written before (set between seam x) at (xs ++ x ∷ []) (seam + 1)
-  then-byte x = written-then w (one-byte between seam x)
-
-  pub room-left : at + length xs < length before → seam < length between
-  room-left l = omega (arith, length-kept w, w .ended)
+then-byte : {before between : List ℕ} {at : ℕ} {xs : List ℕ} {seam : ℕ} → Written before between at xs seam
+    → (x : ℕ) → Written before (set between seam x) at (xs ++ x ∷ []) (seam + 1)
+then-byte {between = between} {seam = seam} w x = written-then w (one-byte between seam x)
 
 -- ## One number
 
@@ -83,18 +83,28 @@ module _ (n : ℕ) where
 
 -- ## Four numbers
 
-module _
-    (n x : ℕ)
-    {before between : List ℕ}
-    {at seam : ℕ}
-    (w : Written before between at (decimalDigits n ++ x ∷ []) seam)
-  where
-    -- It took eleven bytes at most.
-    pub next-room : (more : ℕ) → n < 2 ^ 32 → at + (11 + more) ≤ length before → seam + more ≤ length between
-    next-room more l h =
-        let e = w .ended ∙ ap (λ (k : ℕ). at + k) (length-append (decimalDigits n) (x ∷ [])) in
-        omega (arith, e, ten-digits n l, length-kept w)
+-- A number and the byte that ends it: eleven bytes at most.
+pub record Ended (before after : List ℕ) (at n x end : ℕ) : Type 0 where
+  pub written : Written before after at (decimalDigits n ++ x ∷ []) end
+  pub short : end ≤ at + 11
+  pub long : length after ≡ length before
 
-    pub then-text : {after text : List ℕ} {end : ℕ} → Written between after seam text end
-        → Written before after at (decimalDigits n ++ x ∷ text) end
-    then-text {after} {text} v = rw (← append-snoc (decimalDigits n) x text) (written-then w v)
+pub number-ended : {before between : List ℕ} {at seam : ℕ} (n x : ℕ) → n < 2 ^ 32
+    → Written before between at (decimalDigits n) seam → Ended before (set between seam x) at n x (seam + 1)
+number-ended n x l w =
+    let written = then-byte w x in
+    record {
+      written = written;
+      short = omega (arith, w .ended, ten-digits n l);
+      long = length-kept written;
+    }
+
+then-text : {before between after text : List ℕ} {at n x seam end : ℕ} → Ended before between at n x seam
+    → Written between after seam text end → Written before after at (decimalDigits n ++ x ∷ text) end
+then-text {text = text} {n = n} {x = x} e w = rw (← append-snoc (decimalDigits n) x text) (written-then (e .written) w)
+
+pub four-written : {ws₀ ws₁ ws₂ ws₃ ws₄ : List ℕ} {at₀ at₁ at₂ at₃ at₄ first second third fourth : ℕ}
+    → Ended ws₀ ws₁ at₀ first space at₁ → Ended ws₁ ws₂ at₁ second space at₂
+    → Ended ws₂ ws₃ at₂ third space at₃ → Ended ws₃ ws₄ at₃ fourth lineFeed at₄
+    → Written ws₀ ws₄ at₀ (replyText (first ∷ second ∷ third ∷ fourth ∷ [])) at₄
+four-written a b c d = then-text a (then-text b (then-text c (d .written)))

@@ -5,7 +5,7 @@ use rules::ReleaseReply;
 use rules::ShapeReply;
 use rules::SweepReply;
 ghost use mathlib.Core.Path.{_≡_};
-ghost use mathlib.Core.List.{[], _∷_, _++_};
+ghost use mathlib.Core.List.{[], _∷_};
 ghost use Prim.Native.Nat.{_+_, _≤_};
 ghost use lib.ListN.{length};
 ghost use Rattle.rules.specs.Refusals.{refusalNumber};
@@ -13,7 +13,7 @@ ghost use Rattle.rules.specs.Runner.{actionNumber, fourNumbers};
 ghost use Rattle.rules.specs.Replies.{shapeReply, releaseReply, sweepReply};
 ghost use Rattle.lines.specs.Commands.{numbersOf};
 ghost use Rattle.lines.specs.Decimal.{decimalDigits};
-ghost use Rattle.lines.specs.Writing.{replyText, Written};
+ghost use Rattle.lines.specs.Writing.{replyText, Written, Ended};
 
 pub struct FourNumbers {
     pub first: u32,
@@ -124,9 +124,7 @@ fn write_number(out: &mut [u8], at: usize, n: u32) -> usize
 // A number and the byte that ends it.
 fn write_ended(out: &mut [u8], at: usize, n: u32, ending: u8) -> usize
     requires { ⌜ at + 11 ≤ length (now out) ⌝ }
-    ensures { λ r. ⌜
-        Written (now (out .entry)) (now (out .exit)) at (decimalDigits n ++ ending ∷ []) r
-        ⌝ }
+    ensures { λ r. ⌜ Ended (now (out .entry)) (now (out .exit)) at n ending r ⌝ }
 {
     let end = write_number(out, at, n);
     out[end] = ending;

@@ -14,7 +14,9 @@ returns-3 : tie.Need-returns-3
 returns-3 c = rw (c .match .keys3)
 
 returns-4 : tie.Need-returns-4
-returns-4 c = simp (ne-eqb _ 82 (c .match .rest .0 .0 .1), ne-eqb _ 85 (c .match .rest .0 .1), ne-eqb _ 83 (c .match .rest .1), and-false)
+returns-4 c =
+    let rest = c .match .rest in
+    simp (ne-eqb _ 82 (rest .0 .0 .1), ne-eqb _ 85 (rest .0 .1), ne-eqb _ 83 (rest .1), and-false)
 
 pub without-numbers-spec : {M : Type 1} → statement M
 without-numbers-spec =

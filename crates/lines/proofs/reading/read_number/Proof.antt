@@ -30,7 +30,8 @@ stops-at-requires-2 c κs = c .loop .inv .to
 
 shared-slice-read-byte : tie.Need-shared-slice-read-byte Inv-loop μ-loop
 shared-slice-read-byte c =
-    byte-there (c .before .before .before .loop .inv) (c .before .before .stops-at2 .ensures) (not-true _ (c .before .if2 .taken))
+    let going = not-true _ (c .before .if2 .taken) in
+    byte-there (c .before .before .before .loop .inv) (c .before .before .stops-at2 .ensures) going
 
 is-digit-requires : tie.Need-is-digit-requires Inv-loop μ-loop
 is-digit-requires c κs = search needs
@@ -40,7 +41,8 @@ returns-2 c =
     let loop = c .before .before .before .before .before .loop in
     let stops-at = c .before .before .before .before .stops-at2 in
     let going = not-true _ (c .before .before .before .if2 .taken) in
-    digit-bad (loop .inv) (stops-at .ensures) going refl (sym (c .before .is-digit .ensures) ∙ not-true _ (c .if3 .taken))
+    let no-digit = sym (c .before .is-digit .ensures) ∙ not-true _ (c .if3 .taken) in
+    digit-bad (loop .inv) (stops-at .ensures) going refl no-digit
 
 mul-value : tie.Need-mul-value Inv-loop μ-loop
 mul-value c = omega (arith, c .before .before .before .before .before .loop .inv .small)

@@ -60,7 +60,8 @@ loop-again c =
     let loop-test = c .before .before .before .before .before .before .before .loop-test in
     let here = c .before .before .before .before .before .if1 .left in
     let one = c .before .before .before .before .read-number .ensures in
-    read-on (loop .inv) (loop-test .taken) here one (c .before .before .next .given .1) (c .with-number .ensures)
+    let next = c .before .before .next .given .1 in
+    read-on (loop .inv) (loop-test .taken) here one next (c .with-number .ensures)
 
 returns-3 : tie.Need-returns-3 Inv-loop μ-loop
 returns-3 c = read-all (c .before .loop .inv) (c .loop-test .left)

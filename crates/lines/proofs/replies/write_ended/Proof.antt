@@ -1,7 +1,8 @@
 -- `lines::replies::write_ended` meets its contract. Assumes nothing.
 use native.Mathlib.Omega.{arith}
+use borrow.Author.Needs.{needs}
 use Rattle.lines.specs.Decimal.{ten-digits}
-use Rattle.lines.specs.Writing.{then-byte, room-left, length-kept}
+use Rattle.lines.specs.Writing.{room-left, number-ended}
 use Rattle.lines.proofs.replies.write_ended.Statement.{statement}
 use Rattle.lines.proofs.replies.write_ended.Tie as tie
 
@@ -13,7 +14,8 @@ write-number-requires c κs =
 slice-write-out : tie.Need-slice-write-out
 slice-write-out c =
     let start = c .before .before .before .before .before in
-    room-left (c .before .before .write-number .ensures) (omega (arith, ten-digits (start .args .n) (start .fits .n .fits)))
+    let digits = ten-digits (start .args .n) (start .fits .n .fits) in
+    room-left (c .before .before .write-number .ensures) (omega arith)
 
 add-result : tie.Need-add-result
 add-result c =
@@ -22,14 +24,12 @@ add-result c =
     omega (arith, room-left (c .before .before .write-number .ensures) (omega arith))
 
 same-length : tie.Need-same-length
-same-length c =
-    let start = c .before .before .before .before .before in
-    length-kept (then-byte (c .before .before .write-number .ensures) (start .args .ending))
+same-length c = search needs
 
 returns : tie.Need-returns
 returns c =
     let start = c .before .before .before .before .before in
-    then-byte (c .before .before .write-number .ensures) (start .args .ending)
+    number-ended (start .args .n) (start .args .ending) (start .fits .n .fits) (c .before .before .write-number .ensures)
 
 pub write-ended-spec : {M : Type 1} → statement M
 write-ended-spec =
