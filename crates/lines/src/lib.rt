@@ -40,6 +40,8 @@ pub enum Command {
     BadLine,
 }
 
+// Which letter takes how many numbers: "`R` root, `U` empty unique, `I h k a` insert, `C h k a` change,
+// `D h k` remove, `P h p` prototype, `F h` release, `S` sweep".
 fn without_numbers(letter: u8) -> Command
     ensures { λ r. ⌜ commandCall r ≡ formed (letter ∷ []) (some []) ⌝ }
 {
@@ -102,7 +104,7 @@ fn command_of(letter: u8, numbers: Numbers) -> Command
     }
 }
 
-// "any other line .. is BadLine"
+// "at most 64 bytes", without the line feed; "any other line .. is BadLine"
 pub fn read_line(line: &[u8]) -> Command
     ensures { λ r. ⌜ commandCall r ≡ lineCall (now (line .entry)) ⌝ }
 {

@@ -34,7 +34,6 @@ pub enum Numbers {
 
 // A number ends at the next space or at the end of the line.
 fn stops_at(line: &[u8], at: usize) -> bool
-    requires { ⌜ at ≤ length (now line) ⌝ }
     ensures { λ r. ⌜ r ≡ stops (drop at (now (line .entry))) ⌝ }
 {
     if at < line.len() {
@@ -44,12 +43,14 @@ fn stops_at(line: &[u8], at: usize) -> bool
     }
 }
 
+// The digits' bytes are 48 to 57.
 fn is_digit(byte: u8) -> bool
     ensures { λ r. ⌜ r ≡ within 48 57 byte ⌝ }
 {
     (b'0' <= byte) & (byte <= b'9')
 }
 
+// The number at `start`, of one digit at least.
 fn read_number(line: &[u8], start: usize) -> NumberRead
     requires { ⌜ start ≤ length (now line) ⌝ }
     ensures { λ r. ⌜ ReadsOn (now (line .entry)) start r ⌝ }
@@ -76,6 +77,7 @@ fn read_number(line: &[u8], start: usize) -> NumberRead
     })
 }
 
+// One number more.
 fn with_number(numbers: Numbers, value: u32) -> Numbers
     ensures { λ r. ⌜ r ≡ withNumber numbers value ⌝ }
 {

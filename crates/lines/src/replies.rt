@@ -15,6 +15,7 @@ ghost use Rattle.lines.specs.Commands.{numbersOf};
 ghost use Rattle.lines.specs.Decimal.{decimalDigits};
 ghost use Rattle.lines.specs.Writing.{replyText, Written, Ended};
 
+// "refusal or 0, shape, action, .. transition count"
 pub struct FourNumbers {
     pub first: u32,
     pub second: u32,
@@ -108,6 +109,7 @@ pub fn sweep_numbers(reply: SweepReply) -> FourNumbers
     }
 }
 
+// In decimal, without leading zeros: the digits before the last first.
 fn write_number(out: &mut [u8], at: usize, n: u32) -> usize
     requires { ⌜ at + length (decimalDigits n) ≤ length (now out) ⌝ }
     ensures { λ r. ⌜ Written (now (out .entry)) (now (out .exit)) at (decimalDigits n) r ⌝ }
@@ -131,7 +133,7 @@ fn write_ended(out: &mut [u8], at: usize, n: u32, ending: u8) -> usize
     end + 1
 }
 
-// From `at` on; answers where it ends.
+// The four numbers with single spaces and a line feed, from `at` on. Answers where they end.
 pub fn write_reply(
     out: &mut [u8],
     at: usize,

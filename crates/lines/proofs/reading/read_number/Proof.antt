@@ -26,7 +26,7 @@ loop-holds : tie.Need-loop-holds Inv-loop μ-loop
 loop-holds c = number-begins (c .before .stops-at .ensures) (c .before .before .before .pre) (c .if1 .left)
 
 stops-at-requires-2 : tie.Need-stops-at-requires-2 Inv-loop μ-loop
-stops-at-requires-2 c κs = c .loop .inv .to
+stops-at-requires-2 c κs = search needs
 
 shared-slice-read-byte : tie.Need-shared-slice-read-byte Inv-loop μ-loop
 shared-slice-read-byte c =
