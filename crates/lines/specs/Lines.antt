@@ -35,6 +35,7 @@ atMostThree (some (a ∷ b ∷ [])) = some (a ∷ b ∷ [])
 atMostThree (some (a ∷ b ∷ c ∷ [])) = some (a ∷ b ∷ c ∷ [])
 atMostThree (some (a ∷ b ∷ c ∷ d ∷ ns)) = none
 
+-- One number more.
 abbrev pub withNumber : Numbers → ℕ → Numbers
 withNumber Zero n = One n
 withNumber (One a) n = Two a n

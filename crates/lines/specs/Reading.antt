@@ -33,10 +33,12 @@ abbrev pub readOn : List ℕ → NumberRead → Option (List ℕ)
 readOn line (Reads n) = both (some (n .value)) (following (drop (n .end) line))
 readOn line Bad = none
 
+-- The number ends in the line, and not before its start.
 abbrev EndsIn : List ℕ → (start : ℕ) → NumberRead → Type 0
 EndsIn line start (Reads n) = (start ≤ n .end) × (n .end ≤ length line)
 EndsIn line start Bad = Unit {0}
 
+-- What the reading of one number promises.
 pub record ReadsOn (line : List ℕ) (start : ℕ) (r : NumberRead) : Type 0 where
   pub same : numbers (parts space (drop start line)) ≡ readOn line r
   pub ends : EndsIn line start r

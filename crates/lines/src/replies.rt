@@ -9,7 +9,7 @@ ghost use mathlib.Core.List.{[], _∷_};
 ghost use Prim.Native.Nat.{_+_, _≤_};
 ghost use lib.ListN.{length};
 ghost use Rattle.rules.specs.Refusals.{refusalNumber};
-ghost use Rattle.rules.specs.Runner.{actionNumber, fourNumbers};
+ghost use Rattle.rules.specs.Runner.{actionNumber, badLine, fourNumbers};
 ghost use Rattle.rules.specs.Replies.{shapeReply, releaseReply, sweepReply};
 ghost use Rattle.lines.specs.Commands.{numbersOf};
 ghost use Rattle.lines.specs.Decimal.{decimalDigits};
@@ -23,7 +23,7 @@ pub struct FourNumbers {
     pub fourth: u32,
 }
 
-pub fn refusal_number(r: Refusal) -> u32
+fn refusal_number(r: Refusal) -> u32
     ensures { λ n. ⌜ n ≡ refusalNumber r ⌝ }
 {
     match r {
@@ -43,13 +43,25 @@ pub fn refusal_number(r: Refusal) -> u32
     }
 }
 
-pub fn action_number(action: ChangeTransitionAction) -> u32
+fn action_number(action: ChangeTransitionAction) -> u32
     ensures { λ n. ⌜ n ≡ actionNumber action ⌝ }
 {
     match action {
         ChangeTransitionAction::Nothing => 0,
         ChangeTransitionAction::Remove => 1,
         ChangeTransitionAction::Insert => 2,
+    }
+}
+
+// "BadLine (`14 0 0 0`)"
+pub fn bad_line() -> FourNumbers
+    ensures { λ n. ⌜ numbersOf n ≡ badLine ⌝ }
+{
+    FourNumbers {
+        first: 14,
+        second: 0,
+        third: 0,
+        fourth: 0,
     }
 }
 
