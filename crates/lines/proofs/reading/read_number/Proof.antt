@@ -83,15 +83,15 @@ add-end : tie.Need-add-end Inv-loop μ-loop
 add-end c =
     let loop = c .before .before .before .before .before .before .loop in
     let stops-at = c .before .before .before .before .before .stops-at2 in
-    let going = not-true _ (c .before .before .before .before .if2 .taken) in
-    omega (arith, byte-there (loop .inv) (stops-at .ensures) going)
+    let if2 = c .before .before .before .before .if2 in
+    omega (arith, byte-there (loop .inv) (stops-at .ensures) (not-true _ (if2 .taken)))
 
 loop-less : tie.Need-loop-less Inv-loop μ-loop
 loop-less c =
     let loop = c .before .before .before .before .before .before .loop in
     let stops-at = c .before .before .before .before .before .stops-at2 in
-    let going = not-true _ (c .before .before .before .before .if2 .taken) in
-    omega (arith, byte-there (loop .inv) (stops-at .ensures) going)
+    let if2 = c .before .before .before .before .if2 in
+    omega (arith, byte-there (loop .inv) (stops-at .ensures) (not-true _ (if2 .taken)))
 
 loop-again : tie.Need-loop-again Inv-loop μ-loop
 loop-again c =
