@@ -25,17 +25,6 @@ use Rattle.property_table.specs.Lookup.{lookedUp, looked-held, looked-absent}
 use Rattle.property_table.specs.declared.Property.{Property}
 use Rattle.property_table.specs.declared.OptionalProperty.the-variants.{At, Nothing}
 
--- The lent slice after a list is asked for: a refusal leaves it as it was.
-abbrev pub outAfter : List ℕ → Got (Model × Answer) → List ℕ
-outAfter out (ok (m, Given n x t)) = out
-outAfter out (ok (m, Freed s t)) = out
-outAfter out (ok (m, Done)) = out
-outAfter out (ok (m, Found s a)) = out
-outAfter out (ok (m, NotFound)) = out
-outAfter out (ok (m, Listed n ks)) = ks
-outAfter out (ok (m, Number n)) = out
-outAfter out (refused r) = out
-
 -- ## Refusals
 
 module _ (ws : List ℕ) (n : ℕ) where
@@ -51,11 +40,9 @@ module _ (ws : List ℕ) (n : ℕ) where
     unfolding perform
     lookup-refused k good = rw (good, none) (refl, refl)
 
-    pub keys-refused : (out : List ℕ)
-        → Answers ws ws (perform m (keysInto n out)) (No NoShape)
-        × (out ≡ outAfter out (perform m (keysInto n out)))
+    pub keys-refused : (out : List ℕ) → Answers ws ws (perform m (keysInto n out)) (No NoShape)
     unfolding perform
-    keys-refused out = rw none ((refl, refl), refl)
+    keys-refused out = rw none (refl, refl)
 
     pub prototype-refused : Answers ws ws (perform m (prototypeOf n)) (No NoShape)
     unfolding perform
@@ -105,18 +92,16 @@ module _ {ws : List ℕ} (formed : Formed ws) (n : ℕ) (may : unheld (parse ws)
 
       pub out-short : length out < length ks
           → Answers ws ws (perform model (keysInto n out)) (No OutShort)
-          × (out ≡ outAfter out (perform model (keysInto n out)))
       unfolding perform
-      out-short short = rw (may, ← read, lt-ltb (length out) (length ks) short) ((refl, refl), refl)
+      out-short short = rw (may, ← read, lt-ltb (length out) (length ks) short) (refl, refl)
 
       pub keys-listed : length ks ≤ length out → {count : ℕ} {after : List ℕ} → count ≡ length ks
           → after ≡ ks ++ drop (length ks) out
           → Answers ws ws (perform model (keysInto n out)) (Yes (Listed count after))
-          × (after ≡ outAfter out (perform model (keysInto n out)))
       unfolding perform
       keys-listed enough many written =
           rw (may, ← read, le-ltb (length out) (length ks) enough)
-          ((unchanged formed, ap₂ (λ (c : ℕ) (o : List ℕ). Yes (Listed c o)) many written), written)
+          (unchanged formed, ap₂ (λ (c : ℕ) (o : List ℕ). Yes (Listed c o)) many written)
 
     pub prototype-told : Answers ws ws (perform model (prototypeOf n)) (Yes (Number (s .prototype)))
     unfolding perform

@@ -10,15 +10,13 @@ use rules::Refusal;
 use rules::good_key;
 use store::image::get_shape;
 use store::rows::wide;
-ghost use mathlib.Core.Path.{_≡_};
 ghost use Rattle.store.specs.Layout.{parse};
 ghost use Rattle.store.specs.Image.{Formed};
 ghost use Rattle.rules.specs.Calls.{perform, lookup, keysInto, prototypeOf, isShared};
 ghost use Rattle.rules.specs.Calls.{transitionsOf};
 ghost use Rattle.rules.specs.Calls.{propertiesOf};
-ghost use Rattle.rules.specs.Replies.{Answers, lookupReply, keysReply, numberReply};
+ghost use Rattle.rules.specs.Replies.{Answers, lookupReply, keysReply, KeptIfRefused, numberReply};
 ghost use Rattle.theorems.specs.Facts.{Sound};
-ghost use Rattle.questions.specs.Asked.{outAfter};
 
 // "Lookup answers the slot or Nothing."
 pub fn lookup(image: &[u32], n: u32, key: u32) -> LookupReply
@@ -53,10 +51,7 @@ pub fn keys(image: &[u32], n: u32, out: &mut [u32]) -> KeysReply
         (perform (parse (now (image .entry))) (keysInto n (now (out .entry))))
         (keysReply (now (out .exit)) r)
         ⌝ }
-    ensures { λ _. ⌜
-        now (out .exit)
-        ≡ outAfter (now (out .entry)) (perform (parse (now (image .entry))) (keysInto n (now (out .entry))))
-        ⌝ }
+    ensures { λ r. ⌜ KeptIfRefused r (now (out .entry)) (now (out .exit)) ⌝ }
 {
     if !is_held(image, n) {
         return KeysReply::Refused(Refusal::NoShape);

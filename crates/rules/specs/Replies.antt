@@ -1,6 +1,7 @@
 -- What the code's answers say, in document 01's words.
 -- Assumes nothing.
 use mathlib.Core.List.{List}
+use mathlib.Core.Path.{_≡_}
 use Prim.Native.Nat.{ℕ}
 use Rattle.store.specs.Model.{Model}
 use Rattle.rules.specs.declared.ShapeReply.{ShapeReply}
@@ -45,6 +46,11 @@ lookupReply (not-looked r) = No r
 abbrev pub keysReply : (out : List ℕ) → KeysReply → Reply
 keysReply out (Lists n) = Yes (Listed n out)
 keysReply out (not-listed r) = No r
+
+-- A refusal leaves the slice as it was.
+abbrev pub KeptIfRefused : KeysReply → (before after : List ℕ) → Type 0
+KeptIfRefused (Lists n) before after = Unit {0}
+KeptIfRefused (not-listed r) before after = after ≡ before
 
 abbrev pub numberReply : NumberReply → Reply
 numberReply (Is n) = Yes (Number n)

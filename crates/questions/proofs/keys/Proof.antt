@@ -3,6 +3,7 @@ use Rattle.theorems.specs.Changes.{may-act}
 use Rattle.property_table.specs.Readable.{readable}
 use Rattle.holds.specs.Granted.{not-held, may-name, held-place}
 use Rattle.questions.specs.Asked.{keys-refused, out-short, keys-listed}
+use mathlib.Core.Path.{refl}
 use borrow.Author.Needs.{needs}
 use Rattle.questions.proofs.keys.Statement.{statement}
 use Rattle.questions.proofs.keys.Tie as tie
@@ -11,7 +12,7 @@ is-held-requires : tie.Need-is-held-requires
 is-held-requires c κs = search needs
 
 returns : tie.Need-returns
-returns c = keys-refused _ _ (not-held _ _ (c .before .is-held .ensures) (c .if1 .taken)) _
+returns c = (keys-refused _ _ (not-held _ _ (c .before .is-held .ensures) (c .if1 .taken)) _, refl)
 
 get-shape-requires : tie.Need-get-shape-requires
 get-shape-requires c κs =
@@ -38,8 +39,7 @@ returns-2 c =
     let if1 = c .before .before .before .before .if1 in
     let is-held = c .before .before .before .before .before .is-held in
     let pre = c .before .before .before .before .before .before .before .before .pre in
-    out-short (pre .0) _ (may-name _ _ (is-held .ensures) (if1 .left)) (get-shape .ensures) _ (rw
-    (← key-count .ensures, ← wide .ensures) (c .if2 .taken))
+    (out-short (pre .0) _ (may-name _ _ (is-held .ensures) (if1 .left)) (get-shape .ensures) _ (rw (← key-count .ensures, ← wide .ensures) (c .if2 .taken)), refl)
 
 keys-requires : tie.Need-keys-requires
 keys-requires c κs =
@@ -66,8 +66,7 @@ returns-3 c =
     let if1 = c .before .before .before .before .before .before .before .before .if1 in
     let is-held = c .before .before .before .before .before .before .before .before .before .is-held in
     let pre = c .before .before .before .before .before .before .before .before .before .before .before .before .pre in
-    keys-listed (pre .0) _ (may-name _ _ (is-held .ensures) (if1 .left)) (get-shape .ensures) _ (rw
-    (← key-count .ensures, ← wide .ensures) (if2 .left)) (keys .ensures .0) (keys .ensures .1)
+    (keys-listed (pre .0) _ (may-name _ _ (is-held .ensures) (if1 .left)) (get-shape .ensures) _ (rw (← key-count .ensures, ← wide .ensures) (if2 .left)) (keys .ensures .0) (keys .ensures .1), tt)
 
 pub keys-spec : {M : Type 1} → statement M
 keys-spec =
