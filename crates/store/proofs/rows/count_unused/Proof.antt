@@ -1,6 +1,7 @@
 -- `store::rows::count_unused` meets its contract. Assumes nothing.
 use native.Mathlib.Omega.{arith}
-use Rattle.store.specs.FreePlaces.{Counting, count, count-next, counted-all, at-most-one, unused}
+use Rattle.store.specs.FreePlaces.{unused}
+use Rattle.store.specs.Scans.{Counting, count, count-next, counted-all, at-most-one}
 use Rattle.store.specs.Rows.{length-rows}
 use Rattle.store.specs.Layout.{rows}
 use Rattle.slot.specs.If.{if_then_else_}
