@@ -14,23 +14,34 @@ count-word-requires c κs = search needs
 
 sub-t10 : tie.Need-sub-t10
 sub-t10 c =
-    omega (arith, c .before .count-word .ensures, used-count (tableAt (parse (now (c .before .before .before .before .args .image))) (c .before .before .before .before .args .t)) (c .before .before .before .before .pre .1 .1 .0))
+    let count-word = c .before .count-word in
+    let args = c .before .before .before .before .args in
+    let pre = c .before .before .before .before .pre in
+    omega (arith, count-word .ensures, used-count (tableAt (parse (now (args .image))) (args .t)) (pre .1 .1 .0))
 
 add-edit-entry : tie.Need-add-edit-entry
 add-edit-entry c =
-    omega
-    (arith, c .before .count-word .ensures, used-count (tableAt (parse (now (c .before .before .before .before .args .image))) (c .before .before .before .before .args .t)) (c .before .before .before .before .pre .1 .1 .0), c .before .before .before .before .pre .1 .1 .1, c .before .before .before .before .pre .0 .limited .keys)
+    let count-word = c .before .count-word in
+    let args = c .before .before .before .before .args in
+    let pre = c .before .before .before .before .pre in
+    omega (arith, count-word .ensures, used-count (tableAt (parse (now (args .image))) (args .t)) (pre .1 .1 .0), pre .1 .1 .1, pre .0 .limited .keys)
 
 edit-entry-requires : tie.Need-edit-entry-requires
 edit-entry-requires c κs =
-    (c .before .before .before .before .pre .0, (c .before .before .before .before .pre .1 .0, omega (arith, c .before .count-word .ensures, c .before .before .before .before .pre .1 .1 .1, used-count (tableAt (parse (now (c .before .before .before .before .args .image))) (c .before .before .before .before .args .t)) (c .before .before .before .before .pre .1 .1 .0))))
+    let pre = c .before .before .before .before .pre in
+    let count-word = c .before .count-word in
+    let args = c .before .before .before .before .args in
+    (pre .0, (pre .1 .0, omega (arith, count-word .ensures, pre .1 .1 .1, used-count (tableAt (parse (now (args .image))) (args .t)) (pre .1 .1 .0))))
 
 same-length : tie.Need-same-length
 same-length c = search needs
 
 returns : tie.Need-returns
 returns c =
-    added-becomes (c .before .before .before .before .before .before .before .pre .0) (c .before .before .before .before .before .before .before .pre .1 .1 .0) (c .before .before .before .before .before .before .before .pre .1 .1 .1) (c .before .before .before .before .count-word .ensures) refl refl (c .before .before .edit-entry .ensures)
+    let pre = c .before .before .before .before .before .before .before .pre in
+    let count-word = c .before .before .before .before .count-word in
+    let edit-entry = c .before .before .edit-entry in
+    added-becomes (pre .0) (pre .1 .1 .0) (pre .1 .1 .1) (count-word .ensures) refl refl (edit-entry .ensures)
 
 pub append-entry-spec : {M : Type 1} → statement M
 append-entry-spec =

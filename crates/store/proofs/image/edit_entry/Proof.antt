@@ -15,15 +15,24 @@ tables-requires c κs = search needs
 
 row-at-requires : tie.Need-row-at-requires
 row-at-requires c κs =
-    (c .before .before .before .before .before .pre .1 .0 .low, table-row (c .before .before .before .before .before .pre .0) (c .tables .ensures) (c .before .before .table-width .ensures) (c .before .before .before .before .before .pre .1 .0) .inside)
+    let pre = c .before .before .before .before .before .pre in
+    let tables = c .tables in
+    let table-width = c .before .before .table-width in
+    (pre .1 .0 .low, table-row (pre .0) (tables .ensures) (table-width .ensures) (pre .1 .0) .inside)
 
 add-end : tie.Need-add-end
 add-end c =
-    omega (arith, table-row (c .before .before .before .before .before .before .pre .0) (c .before .tables .ensures) (c .before .before .before .table-width .ensures) (c .before .before .before .before .before .before .pre .1 .0) .inside)
+    let pre = c .before .before .before .before .before .before .pre in
+    let tables = c .before .tables in
+    let table-width = c .before .before .before .table-width in
+    omega (arith, table-row (pre .0) (tables .ensures) (table-width .ensures) (pre .1 .0) .inside)
 
 mul-edit-table : tie.Need-mul-edit-table
 mul-edit-table c =
-    omega (arith, table-row (c .before .before .before .before .before .before .pre .0) (c .before .tables .ensures) (c .before .before .before .table-width .ensures) (c .before .before .before .before .before .before .pre .1 .0) .inside)
+    let pre = c .before .before .before .before .before .before .pre in
+    let tables = c .before .tables in
+    let table-width = c .before .before .before .table-width in
+    omega (arith, table-row (pre .0) (tables .ensures) (table-width .ensures) (pre .1 .0) .inside)
 
 sub-edit-table : tie.Need-sub-edit-table
 sub-edit-table c = search needs
@@ -33,20 +42,32 @@ part-edit-table-start c = search needs
 
 part-edit-table-end : tie.Need-part-edit-table-end
 part-edit-table-end c =
-    omega (arith, table-row (c .before .before .before .before .before .before .pre .0) (c .before .tables .ensures) (c .before .before .before .table-width .ensures) (c .before .before .before .before .before .before .pre .1 .0) .inside)
+    let pre = c .before .before .before .before .before .before .pre in
+    let tables = c .before .tables in
+    let table-width = c .before .before .before .table-width in
+    omega (arith, table-row (pre .0) (tables .ensures) (table-width .ensures) (pre .1 .0) .inside)
 
 edit-table-requires : tie.Need-edit-table-requires
 edit-table-requires c κs =
-    entry-inside (c .before .before .before .before .before .before .before .pre .0) (c .before .before .before .before .before .before .before .pre .1 .0) (c .before .before .tables .ensures) (c .before .before .before .before .table-width .ensures) (c .before .row-at .ensures) refl
-    (c .before .before .before .before .before .before .before .args .position .0) (c .before .before .before .before .before .before .before .pre .1 .1)
+    let pre = c .before .before .before .before .before .before .before .pre in
+    let tables = c .before .before .tables in
+    let table-width = c .before .before .before .before .table-width in
+    let row-at = c .before .row-at in
+    let args = c .before .before .before .before .before .before .before .args in
+    entry-inside (pre .0) (pre .1 .0) (tables .ensures) (table-width .ensures) (row-at .ensures) refl (args .position .0) (pre .1 .1)
 
 same-length : tie.Need-same-length
 same-length c = search needs
 
 returns : tie.Need-returns
 returns c =
-    edit-becomes (c .before .before .before .before .before .before .before .before .before .before .pre .0) (c .before .before .before .before .before .before .before .before .before .before .pre .1 .0) (c .before .before .before .before .before .tables .ensures) (c .before .before .before .before .before .before .before .table-width .ensures) (c .before .before .before .before .row-at .ensures) refl
-    (c .before .before .before .before .before .before .before .before .before .before .args .position .0) (c .before .before .before .before .before .before .before .before .before .before .args .count) (c .before .before .before .before .before .before .before .before .before .before .args .e) (c .before .before .edit-table .ensures)
+    let pre = c .before .before .before .before .before .before .before .before .before .before .pre in
+    let tables = c .before .before .before .before .before .tables in
+    let table-width = c .before .before .before .before .before .before .before .table-width in
+    let row-at = c .before .before .before .before .row-at in
+    let args = c .before .before .before .before .before .before .before .before .before .before .args in
+    let edit-table = c .before .before .edit-table in
+    edit-becomes (pre .0) (pre .1 .0) (tables .ensures) (table-width .ensures) (row-at .ensures) refl (args .position .0) (args .count) (args .e) (edit-table .ensures)
 
 pub edit-entry-spec : {M : Type 1} → statement M
 edit-entry-spec =

@@ -10,14 +10,19 @@ count-word-requires c κs = search needs
 
 edit-entry-requires : tie.Need-edit-entry-requires
 edit-entry-requires c κs =
-    (c .before .before .before .before .pre .0, (c .before .before .before .before .pre .1 .0, omega (arith, c .before .before .before .before .pre .1 .1, entries-fit (c .before .before .before .before .pre .0) (c .before .before .before .before .args .t))))
+    let pre = c .before .before .before .before .pre in
+    let args = c .before .before .before .before .args in
+    (pre .0, (pre .1 .0, omega (arith, pre .1 .1, entries-fit (pre .0) (args .t))))
 
 same-length : tie.Need-same-length
 same-length c = search needs
 
 returns : tie.Need-returns
 returns c =
-    set-becomes (c .before .before .before .before .before .before .before .pre .0) (c .before .before .before .before .before .before .before .pre .1 .1) (c .before .before .before .before .count-word .ensures) (c .before .before .edit-entry .ensures)
+    let pre = c .before .before .before .before .before .before .before .pre in
+    let count-word = c .before .before .before .before .count-word in
+    let edit-entry = c .before .before .edit-entry in
+    set-becomes (pre .0) (pre .1 .1) (count-word .ensures) (edit-entry .ensures)
 
 pub set-entry-spec : {M : Type 1} → statement M
 set-entry-spec = tie.close (tie.spec count-word-requires edit-entry-requires same-length returns)
