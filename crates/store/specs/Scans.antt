@@ -11,11 +11,22 @@ use native.Mathlib.Omega.{arith}
 use lib.ListN.{length, getD, drop}
 use lib.Seq.{drop-cons, drop-length}
 use Rattle.slot.specs.If.{if_then_else_}
-use Rattle.store.specs.Lists.{at, numbered, lowest, keep, every, any, first}
+use Rattle.store.specs.Model.{Model, free, noShape, noEdge, shapeAt, tableAt, edgeAt}
+use Rattle.store.specs.Lists.{numbered, lowest, keep, every, any, first}
 
--- After n records comes the one at place n + 1.
-pub at-next : {A : Type 0} (xs : List A) (n : ℕ) (d : A) → at xs (n + 1) d ≡ getD xs n d
-at-next xs n d = rw add-one
+-- After k records comes the one at place k + 1.
+module _ (m : Model) (k : ℕ) where
+  pub shape-next : shapeAt m (k + 1) ≡ getD (m .shapes) k noShape
+  unfolding shapeAt
+  shape-next = rw add-one
+
+  pub table-next : tableAt m (k + 1) ≡ getD (m .tables) k free
+  unfolding tableAt
+  table-next = rw add-one
+
+  pub edge-next : edgeAt m (k + 1) ≡ getD (m .edges) k noEdge
+  unfolding edgeAt
+  edge-next = rw add-one
 
 -- ## A scan
 
@@ -37,22 +48,30 @@ pub record Scanning {B : Type 0} (s : Scan B) (done : ℕ) (answer : B) : Type 0
 pub scan : {B : Type 0} (s : Scan B) (start : ℕ) → start ≤ s .many → Scanning s start (s .from start)
 scan s start l = record { within = l; same = refl }
 
-module _ {B : Type 0} {s : Scan B} {done : ℕ} {answer : B} (t : Scanning s done answer) where
-  module _ (l : done < s .many) {b : Bool} (tested : b ≡ s .stops done) where
-    turn : (if b then s .says done else s .from (done + 1)) ≡ answer
-    turn = rw tested (sym (s .next done l) ∙ t .same)
+module _
+    {B : Type 0}
+    {s : Scan B}
+    {done : ℕ}
+    {answer : B}
+    (t : Scanning s done answer)
+    {n : ℕ}
+    (count : n ≡ s .many)
+  where
+    module _ (l : done < n) {b : Bool} (tested : b ≡ s .stops done) where
+      turn : (if b then s .says done else s .from (done + 1)) ≡ answer
+      turn = rw tested (sym (s .next done (rw count at l)) ∙ t .same)
 
-    pub stopped : b ≡ true → s .says done ≡ answer
-    stopped e = rw e at turn
+      pub stopped : b ≡ true → s .says done ≡ answer
+      stopped e = rw e at turn
 
-    pub went-on : b ≡ false → Scanning s (done + 1) answer
-    went-on e = record { within = omega arith; same = rw e at turn }
+      pub went-on : b ≡ false → Scanning s (done + 1) answer
+      went-on e = record { within = omega arith; same = rw e at turn }
 
-  pub ended : s .many ≤ done → s .otherwise ≡ answer
-  ended l =
-      let within = t .within in
-      let all : s .many ≡ done = omega arith in
-      sym (s .end) ∙ ap (s .from) all ∙ t .same
+    pub ended : n ≤ done → s .otherwise ≡ answer
+    ended l =
+        let within = t .within in
+        let all : s .many ≡ done = omega arith in
+        sym (s .end) ∙ ap (s .from) all ∙ t .same
 
 -- ## Scans of a list
 
@@ -133,19 +152,19 @@ module _ {A : Type 0} (test : A → Bool) where
   count xs = record { within = omega arith; few = omega arith; rest = omega arith }
 
   module _ {xs : List A} {done counted : ℕ} (c : Counting xs done counted) where
-    pub count-next : (d : A) {one : ℕ} → done < length xs → one ≡ (if test (getD xs done d) then 1 else 0)
-        → Counting xs (done + 1) (counted + one)
-    count-next d {one} l = go (test (getD xs done d)) refl
+    pub count-next : (d : A) {b : Bool} {one : ℕ} → done < length xs → b ≡ test (getD xs done d)
+        → one ≡ (if b then 1 else 0) → Counting xs (done + 1) (counted + one)
+    count-next d {b} {one} l = go b
       where
-        go : (b : Bool) → test (getD xs done d) ≡ b → one ≡ (if b then 1 else 0)
+        go : (b : Bool) → b ≡ test (getD xs done d) → one ≡ (if b then 1 else 0)
             → Counting xs (done + 1) (counted + one)
         go true e o =
             let few = c .few in
-            let rest = rw (drop-cons xs done d l, e) at (c .rest) in
+            let rest = rw (drop-cons xs done d l, ← e) at (c .rest) in
             record { within = omega arith; few = omega arith; rest = rw (add-one done, o) (omega arith) }
         go false e o =
             let few = c .few in
-            let rest = rw (drop-cons xs done d l, e) at (c .rest) in
+            let rest = rw (drop-cons xs done d l, ← e) at (c .rest) in
             record { within = omega arith; few = omega arith; rest = rw (add-one done, o) (omega arith) }
 
     pub counted-all : length xs ≤ done → counted ≡ length (keep test xs)

@@ -1,5 +1,5 @@
 -- `store::image::append_entry` meets its contract. Assumes nothing.
-use Rattle.store.specs.Tables.{used-count, entries-fit, added-becomes}
+use Rattle.store.specs.Tables.{used-count, added-becomes}
 use denote.Ref.{now}
 use Rattle.store.specs.Layout.{parse}
 use Rattle.store.specs.Model.{tableAt}

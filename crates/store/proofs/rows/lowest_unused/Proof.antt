@@ -8,6 +8,7 @@ use lib.ListN.{drop}
 use Prim.Native.Nat.{_-_}
 use mathlib.Core.List.{[]}
 use native.Mathlib.Omega.{arith}
+use mathlib.Core.Path.{sym}
 use borrow.Author.Needs.{needs}
 use Rattle.store.proofs.rows.lowest_unused.Statement.{statement}
 use Rattle.store.proofs.rows.lowest_unused.Tie as tie
@@ -35,7 +36,7 @@ returns c =
     let loop-test = c .before .before .loop-test in
     let is-unused = c .before .is-unused in
     let if1 = c .if1 in
-    stopped (loop .inv) (rw length-rows (loop-test .taken)) (is-unused .ensures) (if1 .taken)
+    stopped (loop .inv) (sym (length-rows _ _ _)) (loop-test .taken) (is-unused .ensures) (if1 .taken)
 
 add-done : tie.Need-add-done Inv-loop μ-loop
 add-done c = search needs
@@ -49,10 +50,10 @@ loop-again c =
     let loop-test = c .before .before .loop-test in
     let is-unused = c .before .is-unused in
     let if1 = c .if1 in
-    went-on (loop .inv) (rw length-rows (loop-test .taken)) (is-unused .ensures) (if1 .left)
+    went-on (loop .inv) (sym (length-rows _ _ _)) (loop-test .taken) (is-unused .ensures) (if1 .left)
 
 returns-2 : tie.Need-returns-2 Inv-loop μ-loop
-returns-2 c = ended (c .before .loop .inv) (rw length-rows (c .loop-test .left))
+returns-2 c = ended (c .before .loop .inv) (sym (length-rows _ _ _)) (c .loop-test .left)
 
 pub lowest-unused-spec : {M : Type 1} → statement M
 lowest-unused-spec =
