@@ -20,7 +20,8 @@ use Rattle.rules.specs.Calls.{Answer, Given, Freed, Done, Found, NotFound, List
 use Rattle.rules.specs.Calls.{perform}
 use Rattle.rules.specs.Calls.{lookup, keysInto, prototypeOf, isShared, transitionsOf, propertiesOf}
 use Rattle.rules.specs.Replies.{Answers}
-use Rattle.theorems.specs.Facts.{ShapeSound, Sound, used-table, used-table-inside}
+use Rattle.rules.specs.InUse.{used-table-inside}
+use Rattle.theorems.specs.Facts.{ShapeSound, Sound, used-table}
 use Rattle.theorems.specs.Changes.{may-act}
 use Rattle.property_table.specs.Slotted.{Slotted, good-slotted}
 use Rattle.property_table.specs.Copies.{entriesIn}

@@ -20,7 +20,8 @@ use Rattle.rules.specs.Steps.{Step, insert, configure, prototype, backward, cha
 use Rattle.rules.specs.Steps.{inserts, remember, sameKey, yields, back, rollback}
 use Rattle.rules.specs.Trails.{madeBy}
 use Rattle.steps.specs.Records.{records, stepsIn}
-use Rattle.theorems.specs.Facts.{Sound, shared-used, used-place-inside, used-table-inside}
+use Rattle.rules.specs.InUse.{used-table-inside}
+use Rattle.theorems.specs.Facts.{Sound, shared-used, used-place-inside}
 use Rattle.theorems.specs.Entries.{has-configured}
 use Rattle.theorems.specs.Made.{SharedAt, entriesAt, transitionsAt, Made, made, at-root}
 use Rattle.theorems.specs.Rollback.{rolled-back}

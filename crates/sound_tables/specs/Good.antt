@@ -14,12 +14,12 @@ use Rattle.slot.specs.If.{if_then_else_}
 use Rattle.slot.specs.Attributes.{goodAttributes, accessor, width}
 use Rattle.store.specs.Lists.{at, every, any}
 use Rattle.store.specs.ListLaws.{and-both, every-place}
+use Rattle.store.specs.Scans.{Scan, Scanning, scan, scanOf, placesScan, and-if, table-next}
 use Rattle.store.specs.Model.{Table, free, used, Model, noEntry, entriesOf, tableAt}
 use Rattle.store.specs.declared.Entry.{Entry}
 use Rattle.rules.specs.Numbers.{goodKey}
 use Rattle.rules.specs.Shapes.{widths}
 use Rattle.rules.specs.Sound.{onTable, distinct, slotsFrom, goodEntries, tablesGood}
-use Rattle.sound_tables.specs.Testing.{Testing, EveryPlace, every-place-from}
 
 -- ## Names for parts of the sentence
 
@@ -31,7 +31,7 @@ goodEntry e = goodKey (e .key) && goodAttributes (e .attributes)
 
 -- No key after the one at a position is the same.
 unfoldable pub noneAfter : List ℕ → ℕ → Bool
-noneAfter ks k = not (any (eqb (getD ks k 0)) (drop (k + 1) ks))
+noneAfter ks k = not (any (eqb (getD ks k 0)) (drop (suc k) ks))
 
 -- ## Keys
 
@@ -41,43 +41,19 @@ key-read es k = sym (List·getD-map (λ e. e .key) es k noEntry)
 pub keys-many : (es : List Entry) → length (keysOf es) ≡ length es
 keys-many es = length-map es (λ e. e .key)
 
--- A key against those from k on, one after the other.
-abbrev pub Apart : (key : ℕ) (ks : List ℕ) (n done : ℕ) (answer : Bool) → Type 0
-Apart key ks n done answer =
-    Testing (λ k. not (eqb key (getD ks k 0))) (λ k. not (any (eqb key) (drop k ks))) n done answer
-
-none-more : (b c : Bool) → not (b || c) ≡ (not b && not c)
-none-more true c = refl
-none-more false c = refl
-
-pub apart-from : {n : ℕ} (key : ℕ) (ks : List ℕ) (start : ℕ) → n ≡ length ks → start ≤ n
-    → Apart key ks n start (not (any (eqb key) (drop start ks)))
-apart-from {n} key ks start e l =
-    record {
-      next = λ i h. rw (drop-cons ks i 0 (omega arith), add-one)
-          (none-more (eqb key (getD ks i 0)) (any (eqb key) (drop (suc i) ks)));
-      end = rw (e, drop-length);
-      within = l;
-      same = refl;
-    }
-
 pub none-after : (ks : List ℕ) (k : ℕ) {key : ℕ} → key ≡ getD ks k 0
     → not (any (eqb key) (drop (k + 1) ks)) ≡ noneAfter ks k
 unfolding noneAfter
-none-after ks k e = rw e
+none-after ks k e = rw (e, add-one)
 
-abbrev pub Distinct : (ks : List ℕ) (n done : ℕ) → Type 0
-Distinct ks n done = Testing (noneAfter ks) (λ k. distinct (drop k ks)) n done (distinct ks)
+abbrev pub distinctScan : List ℕ → Scan Bool
+distinctScan =
+    scanOf 0 (λ k ks. distinct ks) (λ k x ks. not (not (any (eqb x) ks))) (λ k x. false)
+    (λ k x ks. and-if (not (any (eqb x) ks)) (distinct ks))
 
-pub distinct-from : {n : ℕ} (ks : List ℕ) → n ≡ length ks → Distinct ks n 0
+pub last-tested : (ks : List ℕ) (k : ℕ) {b : Bool} → b ≡ noneAfter ks k → not b ≡ distinctScan ks .stops k
 unfolding noneAfter
-distinct-from {n} ks e =
-    record {
-      next = λ k h. rw (drop-cons ks k 0 (omega arith), add-one);
-      end = rw (e, drop-length);
-      within = omega arith;
-      same = refl;
-    }
+last-tested ks k e = ap not e
 
 -- ## Slots
 
@@ -150,21 +126,16 @@ module _ (es : List Entry) where
 abbrev pub goodTable : ℕ × Table → Bool
 goodTable p = onTable (λ t es. goodEntries es) p
 
-pub table-place : (m : Model) (k : ℕ) → tableAt m (k + 1) ≡ getD (m .tables) k free
-unfolding tableAt
-table-place m k = rw add-one
-
 -- A free table has no entries, and so nothing that could be wrong.
 pub table-entries : (m : Model) (k : ℕ) {b : Bool} → b ≡ goodEntries (entriesOf (tableAt m (k + 1)))
     → b ≡ goodTable (k + 1, getD (m .tables) k free)
 table-entries m k e =
-    e ∙ ap (λ (x : Table). goodEntries (entriesOf x)) (table-place m k) ∙ go (getD (m .tables) k free)
+    e ∙ ap (λ (x : Table). goodEntries (entriesOf x)) (table-next m k) ∙ go (getD (m .tables) k free)
   where
     go : (x : Table) → goodEntries (entriesOf x) ≡ goodTable (k + 1, x)
     go free = refl
     go (used es) = refl
 
-pub tables-from : {n : ℕ} (m : Model) → n ≡ length (m .tables)
-    → EveryPlace goodTable (m .tables) free n 0 (tablesGood m)
+pub tables-from : (m : Model) → Scanning (placesScan free goodTable (m .tables)) 0 (tablesGood m)
 unfolding tablesGood
-tables-from m e = every-place-from goodTable (m .tables) free e
+tables-from m = scan (placesScan free goodTable (m .tables)) 0 (omega arith)

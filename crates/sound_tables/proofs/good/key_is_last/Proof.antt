@@ -5,7 +5,7 @@ use lib.ListN.{drop}
 use lib.Dec.{eqb}
 use Rattle.store.specs.Lists.{any}
 use borrow.Author.Tests.{eq-eqb, ne-eqb}
-use Rattle.sound_tables.specs.Testing.{test-failed, test-on, tested-all}
+use Rattle.store.specs.Scans.{Scanning, noneScan, scan, stopped, went-on, ended}
 use native.Mathlib.Omega.{arith}
 use Prim.Native.Nat.{ℕ, _-_}
 use mathlib.Core.Path.{sym, ap, _∙_}
@@ -19,7 +19,7 @@ use Rattle.sound_tables.proofs.good.key_is_last.Tie as tie
 abbrev Inv-loop : tie.InvT-loop
 Inv-loop image t count key done₀ done =
     let keys = keysOf (entriesOf (tableAt (parse image) t)) in
-    Apart key keys count done (not (any (eqb key) (drop done₀ keys)))
+    Scanning (noneScan 0 (eqb key) keys) done (not (any (eqb key) (drop done₀ keys)))
 
 abbrev μ-loop : tie.MeasureT-loop
 μ-loop image t count key done₀ done = count - done
@@ -37,9 +37,9 @@ loop-holds : tie.Need-loop-holds Inv-loop μ-loop
 loop-holds c =
     let entry-count = c .before .before .entry-count in
     let args = c .before .before .before .before .args in
-    apart-from _ _ _
-    (entry-count .ensures ∙ sym (keys-many (entriesOf (tableAt (parse (now (args .image))) (args .t)))))
-    (omega (arith, entry-count .ensures))
+    scan _ _
+    (omega
+    (arith, entry-count .ensures, keys-many (entriesOf (tableAt (parse (now (args .image))) (args .t)))))
 
 key-at-requires-2 : tie.Need-key-at-requires-2 Inv-loop μ-loop
 key-at-requires-2 c κs =
@@ -55,8 +55,10 @@ returns c =
     let key-at2 = c .before .key-at2 in
     let if1 = c .if1 in
     let args = c .before .before .before .before .before .before .before .before .args in
-    test-failed (loop .inv) (loop-test .taken)
-    (ap (λ (k : ℕ). not (eqb (key-at .result) k)) (key-at2 .ensures)) (ap not (eq-eqb _ _ (if1 .taken)))
+    let entry-count = c .before .before .before .before .before .before .entry-count in
+    stopped (loop .inv)
+    (entry-count .ensures ∙ sym (keys-many (entriesOf (tableAt (parse (now (args .image))) (args .t)))))
+    (loop-test .taken) (ap (eqb (key-at .result)) (key-at2 .ensures)) (eq-eqb _ _ (if1 .taken))
     ∙ none-after (keysOf (entriesOf (tableAt (parse (now (args .image))) (args .t)))) (args .position .0)
     (key-at .ensures)
 
@@ -73,8 +75,11 @@ loop-again c =
     let key-at = c .before .before .before .before .before .key-at in
     let key-at2 = c .before .key-at2 in
     let if1 = c .if1 in
-    test-on (loop .inv) (loop-test .taken) (ap (λ (k : ℕ). not (eqb (key-at .result) k)) (key-at2 .ensures))
-    (ap not (ne-eqb _ _ (if1 .left)))
+    let args = c .before .before .before .before .before .before .before .before .args in
+    let entry-count = c .before .before .before .before .before .before .entry-count in
+    went-on (loop .inv)
+    (entry-count .ensures ∙ sym (keys-many (entriesOf (tableAt (parse (now (args .image))) (args .t)))))
+    (loop-test .taken) (ap (eqb (key-at .result)) (key-at2 .ensures)) (ne-eqb _ _ (if1 .left))
 
 returns-2 : tie.Need-returns-2 Inv-loop μ-loop
 returns-2 c =
@@ -82,7 +87,10 @@ returns-2 c =
     let loop-test = c .loop-test in
     let args = c .before .before .before .before .before .before .args in
     let key-at = c .before .before .before .key-at in
-    tested-all (loop .inv) (loop-test .left)
+    let entry-count = c .before .before .before .before .entry-count in
+    ended (loop .inv)
+    (entry-count .ensures ∙ sym (keys-many (entriesOf (tableAt (parse (now (args .image))) (args .t)))))
+    (loop-test .left)
     ∙ none-after (keysOf (entriesOf (tableAt (parse (now (args .image))) (args .t)))) (args .position .0)
     (key-at .ensures)
 

@@ -1,7 +1,7 @@
 -- `sound_tables::good::keys_distinct` meets its contract. Assumes nothing.
 use denote.Ref.{now}
 use borrow.Author.Tests.{not-true, not-false}
-use Rattle.sound_tables.specs.Testing.{test-failed, test-on, tested-all}
+use Rattle.store.specs.Scans.{Scanning, scan, stopped, went-on, ended}
 use native.Mathlib.Omega.{arith}
 use Prim.Native.Nat.{_-_}
 use mathlib.Core.Path.{sym, _∙_}
