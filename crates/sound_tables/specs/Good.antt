@@ -1,24 +1,23 @@
 -- The test of the tables' entries: keys, attributes and slots.
 -- Assumes nothing.
 use mathlib.Core.Path.{_≡_, refl, sym, ap, _∙_}
-use mathlib.Core.Bool.{Bool, true, false, _&&_, _||_, not, and-true, and-false}
+use mathlib.Core.Bool.{Bool, true, false, _&&_, not, and-true, and-false}
 use mathlib.Core.List.{List, map}
 use Prim.Native.Nat.{ℕ, suc, _+_, _*_, _≤_, _<_}
 use native.Mathlib.Numerals.{add-one}
 use native.Mathlib.Omega.{arith}
 use borrow.Author.Tests.{leb-true}
 use lib.Dec.{eqb}
-use lib.ListN.{length, getD, drop, length-map, List·getD-map}
+use lib.ListN.{length, getD, drop}
 use lib.Seq.{drop-cons, drop-length}
 use Rattle.slot.specs.If.{if_then_else_}
 use Rattle.slot.specs.Attributes.{goodAttributes, accessor, width}
 use Rattle.store.specs.Lists.{at, every, any}
 use Rattle.store.specs.ListLaws.{and-both, every-place}
-use Rattle.store.specs.Scans.{Scan, Scanning, scan, scanOf, placesScan, and-if, table-next}
+use Rattle.store.specs.Scans.{Scan, Scanning, scan, scanOf, placesScan, and-if, none-if, table-next}
 use Rattle.store.specs.Model.{Table, free, used, Model, noEntry, entriesOf, tableAt}
 use Rattle.store.specs.declared.Entry.{Entry}
 use Rattle.rules.specs.Numbers.{goodKey}
-use Rattle.rules.specs.Shapes.{widths}
 use Rattle.rules.specs.Sound.{onTable, distinct, slotsFrom, goodEntries, tablesGood}
 
 -- ## Names for parts of the sentence
@@ -30,30 +29,30 @@ abbrev pub goodEntry : Entry → Bool
 goodEntry e = goodKey (e .key) && goodAttributes (e .attributes)
 
 -- No key after the one at a position is the same.
-unfoldable pub noneAfter : List ℕ → ℕ → Bool
-noneAfter ks k = not (any (eqb (getD ks k 0)) (drop (suc k) ks))
+unfoldable pub noneAfter : List Entry → ℕ → Bool
+noneAfter es k = not (any (eqb (getD es k noEntry .key)) (keysOf (drop (suc k) es)))
 
 -- ## Keys
 
-pub key-read : (es : List Entry) (k : ℕ) → getD es k noEntry .key ≡ getD (keysOf es) k 0
-key-read es k = sym (List·getD-map (λ e. e .key) es k noEntry)
+-- A key against those of the entries left.
+abbrev pub apartScan : ℕ → List Entry → Scan Bool
+apartScan key =
+    scanOf noEntry (λ k es. not (any (eqb key) (keysOf es))) (λ k e es. eqb key (e .key)) (λ k e. false)
+    (λ k e es. none-if (eqb key (e .key)) (any (eqb key) (keysOf es)))
 
-pub keys-many : (es : List Entry) → length (keysOf es) ≡ length es
-keys-many es = length-map es (λ e. e .key)
-
-pub none-after : (ks : List ℕ) (k : ℕ) {key : ℕ} → key ≡ getD ks k 0
-    → not (any (eqb key) (drop (k + 1) ks)) ≡ noneAfter ks k
+pub none-after : (es : List Entry) (k : ℕ) {e : Entry} → e ≡ getD es k noEntry
+    → not (any (eqb (e .key)) (keysOf (drop (k + 1) es))) ≡ noneAfter es k
 unfolding noneAfter
-none-after ks k e = rw (e, add-one)
+none-after es k e = rw (e, add-one)
 
-abbrev pub distinctScan : List ℕ → Scan Bool
+abbrev pub distinctScan : List Entry → Scan Bool
 distinctScan =
-    scanOf 0 (λ k ks. distinct ks) (λ k x ks. not (not (any (eqb x) ks))) (λ k x. false)
-    (λ k x ks. and-if (not (any (eqb x) ks)) (distinct ks))
+    scanOf noEntry (λ k es. distinct (keysOf es)) (λ k e es. not (not (any (eqb (e .key)) (keysOf es))))
+    (λ k e. false) (λ k e es. and-if (not (any (eqb (e .key)) (keysOf es))) (distinct (keysOf es)))
 
-pub last-tested : (ks : List ℕ) (k : ℕ) {b : Bool} → b ≡ noneAfter ks k → not b ≡ distinctScan ks .stops k
+pub last-tested : (es : List Entry) (k : ℕ) {b : Bool} → b ≡ noneAfter es k → not b ≡ distinctScan es .stops k
 unfolding noneAfter
-last-tested ks k e = ap not e
+last-tested es k e = ap not e
 
 -- ## Slots
 

@@ -6,16 +6,13 @@ use mathlib.Core.List.{List}
 use mathlib.Core.Logic.{_⊎_, inl, inr}
 use Prim.Native.Nat.{ℕ, _+_, _≤_, _<_}
 use native.Mathlib.Nat.{add-zero}
-use native.Mathlib.Numerals.{add-one}
 use native.Mathlib.Omega.{arith}
-use borrow.Author.Tests.{leb-true, eqb-true, eq-eqb, ne-eqb}
+use borrow.Author.Tests.{eqb-true, eq-eqb, ne-eqb}
 use lib.Dec.{eqb, leb}
 use lib.ListN.{length, getD, set, replicate, length-set, length-replicate, getD-replicate}
 use lib.Seq.{getD-set-same, getD-set-other}
 use Rattle.slot.specs.If.{if_then_else_}
-use Rattle.store.specs.Lists.{numbered, every}
 use Rattle.store.specs.PlaceLaws.{same?}
-use Rattle.store.specs.ListLaws.{and-both, or-then, every-numbered}
 use Rattle.store.specs.Model.{Table, free, used, Model, noShape, freeShape, freeTable, shapeAt, tableAt}
 use Rattle.store.specs.Layout.{parse}
 use Rattle.store.specs.Scans.{Counting, count, count-next, counted-all, shape-next, table-next}

@@ -1,15 +1,14 @@
 -- What the test of soundness says, as facts: `sound-facts`.
 -- Assumes nothing.
-use mathlib.Core.Bool.{Bool, true, false, _&&_, _||_, not}
+use mathlib.Core.Bool.{true, false, _||_, not}
 use mathlib.Core.List.{List, [], _∷_}
 use mathlib.Core.Logic.{_⊎_, inl, inr, _≢_}
 use mathlib.Core.Path.{_≡_, refl}
 use Prim.Native.Nat.{ℕ, _+_, _≤_}
 use native.Mathlib.Omega.{arith}
-use borrow.Author.Tests.{eqb-true, eqb-false, eq-eqb, ne-eqb, leb-true, le-leb, not-true}
+use borrow.Author.Tests.{eqb-true, eqb-false, eq-eqb, ne-eqb, leb-true, le-leb}
 use lib.Dec.{eqb, leb, ltb}
 use lib.ListN.{length}
-use Rattle.slot.specs.If.{if_then_else_}
 use Rattle.store.specs.Lists.{at, every, zeros}
 use Rattle.store.specs.Model.{free, used, Model, noCounters, noShape, noEdge, freeShape, freeTable, freeEdge}
 use Rattle.store.specs.Model.{shapeAt, tableAt, edgeAt}
@@ -19,10 +18,10 @@ use Rattle.store.specs.ListLaws.{either, zeros→replicate}
 use Rattle.store.specs.declared.Shape.{Shape}
 use Rattle.store.specs.declared.Entry.{Entry}
 use Rattle.store.specs.declared.Edge.{Edge}
-use Rattle.rules.specs.Shapes.{unique, isRoot, isChild, tableOf}
+use Rattle.rules.specs.Shapes.{unique, isRoot, isChild}
 use Rattle.rules.specs.Steps.{edgeKind}
-use Rattle.rules.specs.Sound.{eachShape, eachTable, inRange, tableInUse, freeZero, tablesGood, users}
-use Rattle.rules.specs.Sound.{tablesUsed, countsFit, rootsZero, childrenLinked, stepOf, childrenStepped}
+use Rattle.rules.specs.Sound.{eachTable, inRange, freeZero, tablesGood, users}
+use Rattle.rules.specs.Sound.{tablesUsed, rootsZero, childrenLinked, stepOf, childrenStepped}
 use Rattle.rules.specs.Sound.{edgesDiffer, goodChild, edgesGood, transitionsLimited, holdsLimited}
 use Rattle.rules.specs.Sound.{uniquesZero, modelSentences, soundModel}
 use Rattle.theorems.specs.Facts.{Used, RootZero, UniqueZero, GoodWords, InLimits, ChildSound, User}

@@ -13,8 +13,8 @@ use Rattle.store.specs.Lists.{at, keep, any, onlyOne, zeros}
 use Rattle.store.specs.Model.{Table, free, used, Model, noShape, noEdge, freeShape, freeEdge, shapeAt}
 use Rattle.store.specs.Model.{tableAt, edgeAt}
 use Rattle.store.specs.Layout.{shapeWords, edgeWords, readShape, readEdge}
-use Rattle.store.specs.ListLaws.{and-both, both-and, or-then, then-or, every-place, every-make}
-use Rattle.store.specs.ListLaws.{every-numbered, numbered-every, not-both, any-place, place-any, keep-any}
+use Rattle.store.specs.ListLaws.{and-both, both-and, or-then, then-or, every-make}
+use Rattle.store.specs.ListLaws.{numbered-every, not-both, any-place, place-any, keep-any}
 use Rattle.store.specs.ListLaws.{any-keep, only-kept, kept-only, zeros→replicate}
 use Rattle.store.specs.declared.Shape.{Shape}
 use Rattle.store.specs.declared.Entry.{Entry}
