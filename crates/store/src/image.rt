@@ -18,7 +18,7 @@ use slot::KeyPosition;
 ghost use mathlib.Core.Path.{_≡_};
 ghost use mathlib.Core.Bool.{false};
 ghost use mathlib.Core.List.{[], _∷_, _++_};
-ghost use Prim.Native.Nat.{_+_, _*_, _<_};
+ghost use Prim.Native.Nat.{_<_};
 ghost use lib.ListN.{length, getD, set};
 ghost use Rattle.store.specs.Model.{limitsOf, shapeAt, putShape, edgeAt, putEdge};
 ghost use Rattle.store.specs.Model.{tableAt, putTable, entriesOf, freeTable, free, used, noEntry};
