@@ -91,3 +91,13 @@ module _ (k : ℕ) (es : List Entry) {place : ℕ} (its : place ≡ lowest (isKe
       go : Sought k es 1 place → Held k es (place - 1)
       go (absent z h) = absurd (ne z)
       go (found j z h) = let at : place - 1 ≡ j = omega (arith, z) in rw at h
+
+-- The entry of a key that is held is one of the shape's.
+module _ {m : Model} {s : Shape} (r : Readable m s) (k : ℕ) {place : ℕ}
+    (its : place ≡ lowest (isKey k) 1 (entries m s)) (some : place ≢ 0) where
+  pub held-inside : place - 1 < s .properties
+  held-inside = rw (← (readable-long r)) (key-held k (entries m s) its some .inside)
+
+  pub held-read : {e : Entry} → e ≡ getD (tableOf m s) (place - 1) noEntry
+      → e ≡ getD (entries m s) (place - 1) noEntry
+  held-read = entry-read r held-inside

@@ -25,7 +25,7 @@ use Rattle.rules.specs.Steps.{edgeKind}
 use Rattle.rules.specs.Sound.{inRange, tablesGood, distinct, goodEntries, onTable}
 use Rattle.rules.specs.Sound.{stepOf, goodLabel, goodChild}
 use Rattle.rules.specs.InUse.{EdgeRanges, edge-ranges}
-use Rattle.sound_shapes.specs.Keys.{readable, readable-long, entry-read, key-absent, key-held}
+use Rattle.sound_shapes.specs.Keys.{readable, key-absent, key-held, held-read}
 use Rattle.sound_shapes.specs.Tests.{widthFits, leadsTo, Keyed}
 use Rattle.sound_shapes.specs.Tests.{goodEdge, TablesKnown}
 
@@ -42,16 +42,12 @@ module _ (m : Model) (s : Shape) (known : Keyed m s) where
     pub absent-fits : place ≡ 0 → true ≡ widthFits k a (entries m s)
     absent-fits e = rw (key-absent k (entries m s) sought e)
 
-    module _ (some : place ≡ 0 → ⊥) where
-      pub held-inside : place - 1 < s .properties
-      held-inside = rw (← (readable-long (known .readable))) (key-held k (entries m s) sought some .inside)
-
-      pub held-answer : {e : Entry} {r : Bool} → e ≡ getD (tableOf m s) (place - 1) noEntry
-          → r ≡ sameWidth (e .attributes) a → r ≡ widthFits k a (entries m s)
-      held-answer read answer =
-          let h = key-held k (entries m s) sought some in
-          let its = entry-read (known .readable) held-inside read in
-          rw (h .held, ← (h .attributes), ← its) answer
+    pub held-answer : {e : Entry} {r : Bool} → (place ≡ 0 → ⊥) → e ≡ getD (tableOf m s) (place - 1) noEntry
+        → r ≡ sameWidth (e .attributes) a → r ≡ widthFits k a (entries m s)
+    held-answer some read answer =
+        let h = key-held k (entries m s) sought some in
+        let its = held-read (known .readable) k sought some read in
+        rw (h .held, ← (h .attributes), ← its) answer
 
 -- ## What a parent has
 

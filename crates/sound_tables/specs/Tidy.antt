@@ -15,7 +15,7 @@ use Rattle.store.specs.ListLaws.{and-both, both-and, all-passed, agree→≡}
 use Rattle.store.specs.Model.{limitsOf}
 use Rattle.store.specs.Layout.{limitsIn, limitSentences, goodLimits, goodHeader, header}
 use Rattle.store.specs.Layout.{tidyTable, tidyTables}
-use Rattle.store.specs.Layout.{total, laidOut, parse, tablesOffset, tableWidth, within, rows}
+use Rattle.store.specs.Layout.{total, laidOut, parse, tablesOffset, tableWidth, rows}
 use Rattle.store.specs.ThereAndBack.{limits-parse, fits-parse, words-parse}
 use Rattle.store.specs.FreePlaces.{Area, row-at-place}
 use Rattle.store.specs.Image.{Formed}

@@ -1,6 +1,7 @@
 -- `sound_shapes::labels::width_fits` meets its contract. Assumes nothing.
 use Prim.Native.Nat.{_-_}
-use Rattle.sound_shapes.specs.Labels.{absent-fits, held-inside, held-answer, entry-attributes}
+use Rattle.sound_shapes.specs.Labels.{absent-fits, held-answer, entry-attributes}
+use Rattle.sound_shapes.specs.Keys.{held-inside}
 use borrow.Author.Needs.{needs}
 use native.Mathlib.Omega.{arith}
 use denote.Ref.{now}
@@ -34,8 +35,7 @@ get-entry-requires c κs =
         pre .1 .0 .readable .table,
         omega (
           arith,
-          held-inside (parse (now (args .image))) (args .s) (pre .1 .0) (args .key) (args .attributes)
-              (place-of-key .ensures) (if1 .left),
+          held-inside (pre .1 .0 .readable) (args .key) (place-of-key .ensures) (if1 .left),
           pre .1 .0 .readable .fits,
         ),
       ),
