@@ -76,17 +76,17 @@ module _ (n kind : ℕ) (ws : List ℕ) (p : ℕ) {e : Edge} (read : e ≡ edgeA
   left other formed = rw (← read, ← tested, other, read, put-edge-back) (unchanged formed)
 
 -- The loop: so many edges are pruned.
-module _ (n kind : ℕ) {before : List ℕ} where
-  abbrev pub Pruning : (now : List ℕ) (done : ℕ) → Type 0
-  Pruning now done = Pass ofEdges (prune n kind (parse before .edges)) before now done
+abbrev pub Pruning : (parent kind : ℕ) (before now : List ℕ) (done : ℕ) → Type 0
+Pruning n kind before now done = Pass ofEdges (prune n kind (parse before .edges)) before now done
 
-  pub prune-start : Formed before → Pruning before 0
+module _ (n kind : ℕ) {before : List ℕ} where
+  pub prune-start : Formed before → Pruning n kind before before 0
   prune-start f = pass-start ofEdges _ f (length-map (parse before .edges) (unlessDead n kind))
 
-  pub prune-next : {now after : List ℕ} {done : ℕ} → Pruning now done → done < length (parse before .edges)
+  pub prune-next : {now after : List ℕ} {done : ℕ} → Pruning n kind before now done → done < length (parse before .edges)
       → Becomes now after
       (putEdge (parse now) (done + 1) (unlessDead n kind (edgeAt (parse now) (done + 1))))
-      → Pruning after (done + 1)
+      → Pruning n kind before after (done + 1)
   unfolding putEdge edgeAt
   prune-next {done = done} c inside turn =
       pass-next ofEdges c (unlessDead n kind) inside

@@ -11,7 +11,7 @@ use Rattle.forward_transition.proofs.prune.Statement.{statement}
 use Rattle.forward_transition.proofs.prune.Tie as tie
 
 abbrev Inv-loop : tie.InvT-loop
-Inv-loop image₀ parent kind count done₀ image done = Pruning parent kind {before = image₀} image done
+Inv-loop image₀ parent kind count done₀ image done = Pruning parent kind image₀ image done
 
 abbrev μ-loop : tie.MeasureT-loop
 μ-loop image₀ parent kind count done₀ image done = length (parse image₀ .edges) - done
