@@ -66,9 +66,9 @@ step-label t = go (eqb (t .kind) 0) (eqb (t .kind) 1)
     go false false = refl
 
 module _ (ws : List ℕ) where
-  pub steps-many : {n : ℕ} → n ≡ length (records ws) → n ≡ keyScan 0 ws .many
+  pub steps-many : {n : ℕ} → n ≡ length (records ws) → n ≡ length (stepsIn ws)
   steps-many e = e ∙ sym (length-map (records ws) stepIn)
 
-  pub step-tested : (key : ℕ) {i : ℕ} {t : StepRecord} → t ≡ getD (records ws) i noStep
+  pub step-tested : (key i : ℕ) {t : StepRecord} → t ≡ getD (records ws) i noStep
       → eqb (t .label) key ≡ keyScan key ws .stops i
-  step-tested key {i} {t} read = rw (List·getD-map stepIn (records ws) i noStep, ← read, step-label t)
+  step-tested key i {t} read = rw (List·getD-map stepIn (records ws) i noStep, ← read, step-label t)
