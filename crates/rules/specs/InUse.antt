@@ -2,7 +2,7 @@
 -- Assumes nothing.
 use mathlib.Core.Bool.{Bool, true, false, _&&_, false≢true}
 use mathlib.Core.List.{List}
-use mathlib.Core.Path.{_≡_, refl}
+use mathlib.Core.Path.{_≡_, refl, ap}
 use Prim.Native.Nat.{ℕ, _≤_}
 use native.Mathlib.Omega.{arith}
 use borrow.Author.Tests.{eqb-true, leb-true, not-true}
@@ -18,10 +18,13 @@ use Rattle.store.specs.Image.{Place}
 use Rattle.store.specs.declared.Shape.{Shape}
 use Rattle.store.specs.declared.Entry.{Entry}
 use Rattle.store.specs.declared.Edge.{Edge}
-use Rattle.rules.specs.Shapes.{unique, tableOf}
+use Rattle.rules.specs.Shapes.{shared, unique, tableOf}
 use Rattle.rules.specs.Sound.{eachShape, onTable, eachTable, eachEdge, inRange, tableInUse, countsFit}
 
 -- ## Each record in use
+
+pub shared-used : (s : Shape) → shared s ≡ true → freeShape s ≡ false
+shared-used s h = ap (λ (x : ℕ). eqb x 0) (eqb-true (s .state) 1 h)
 
 module _ (m : Model) where
   pub each-shape : (test : ℕ → Shape → Bool) → eachShape m test ≡ true
@@ -118,3 +121,17 @@ module _ (m : Model) where
           let q : shapeAt m n .properties ≡ length (tableOf m (shapeAt m n)) = eqb-true _ _ h in
           (omega arith, λ z. q)
       go false h = (leb-true _ _ h, λ z. absurd (false≢true z))
+
+-- The shape's table is a place, and has an entry for each key that the shape counts.
+pub record Tabled (m : Model) (s : Shape) : Type 0 where
+  pub table : Place (length (m .tables)) (s .table)
+  pub fits : s .properties ≤ length (tableOf m s)
+
+pub tabled : (m : Model) → tableInUse m ≡ true → countsFit m ≡ true → (n : ℕ) {s : Shape}
+    → s ≡ shapeAt m n → freeShape s ≡ false → Tabled m s
+tabled m inUse counts n {s} its u =
+    let used : freeShape (shapeAt m n) ≡ false = rw (← its) u in
+    rw its record {
+      table = used-table-inside m (shapeAt m n .table) (table-in-use m inUse n used);
+      fits = count-fits m counts n used .0;
+    }

@@ -4,41 +4,26 @@ use mathlib.Core.Bool.{true, false}
 use mathlib.Core.List.{List, [], _∷_}
 use mathlib.Core.Logic.{inl, inr, _≢_}
 use mathlib.Core.Path.{_≡_, refl}
-use Prim.Native.Nat.{ℕ, suc, _+_, _-_, _≤_, _<_}
+use Prim.Native.Nat.{ℕ, suc, _+_, _-_, _<_}
 use native.Mathlib.Omega.{arith}
 use lib.Dec.{eqb}
 use lib.ListN.{length, getD}
 use lib.Seq.{getD-take, length-take-le}
 use Rattle.store.specs.Lists.{lowest}
 use Rattle.store.specs.ListLaws.{Decided, either}
-use Rattle.store.specs.Model.{Model, noEntry, freeShape, shapeAt}
-use Rattle.store.specs.Image.{Place}
+use Rattle.store.specs.Model.{Model, noEntry}
 use Rattle.store.specs.declared.Shape.{Shape}
 use Rattle.store.specs.declared.Entry.{Entry}
 use Rattle.rules.specs.Shapes.{isKey, has, attributesIn, tableOf, entries}
-use Rattle.rules.specs.Sound.{tableInUse, countsFit}
-use Rattle.rules.specs.InUse.{used-table-inside, table-in-use, count-fits}
+use Rattle.rules.specs.InUse.{Tabled}
 
--- ## Shapes whose entries can be read
+-- ## The entries of a shape
 
-pub record Readable (m : Model) (s : Shape) : Type 0 where
-  pub table : Place (length (m .tables)) (s .table)
-  pub fits : s .properties ≤ length (tableOf m s)
+module _ {m : Model} {s : Shape} (r : Tabled m s) where
+  pub tabled-long : length (entries m s) ≡ s .properties
+  tabled-long = length-take-le (s .properties) (tableOf m s) (r .fits)
 
-pub readable : (m : Model) → tableInUse m ≡ true → countsFit m ≡ true → (n : ℕ) {s : Shape}
-    → s ≡ shapeAt m n → freeShape s ≡ false → Readable m s
-readable m inUse counts n {s} its u =
-    let used : freeShape (shapeAt m n) ≡ false = rw (← its) u in
-    rw its record {
-      table = used-table-inside m (shapeAt m n .table) (table-in-use m inUse n used);
-      fits = count-fits m counts n used .0;
-    }
-
-module _ {m : Model} {s : Shape} (r : Readable m s) where
-  pub readable-long : length (entries m s) ≡ s .properties
-  readable-long = length-take-le (s .properties) (tableOf m s) (r .fits)
-
-  pub entry-read : {k : ℕ} {e : Entry} → k < s .properties → e ≡ getD (tableOf m s) k noEntry
+  entry-read : {k : ℕ} {e : Entry} → k < s .properties → e ≡ getD (tableOf m s) k noEntry
       → e ≡ getD (entries m s) k noEntry
   entry-read {k} l read = rw (getD-take (s .properties) (tableOf m s) k noEntry l) read
 
@@ -93,10 +78,10 @@ module _ (k : ℕ) (es : List Entry) {place : ℕ} (its : place ≡ lowest (isKe
       go (found j z h) = let at : place - 1 ≡ j = omega (arith, z) in rw at h
 
 -- The entry of a key that is held is one of the shape's.
-module _ {m : Model} {s : Shape} (r : Readable m s) (k : ℕ) {place : ℕ}
+module _ {m : Model} {s : Shape} (r : Tabled m s) (k : ℕ) {place : ℕ}
     (its : place ≡ lowest (isKey k) 1 (entries m s)) (some : place ≢ 0) where
   pub held-inside : place - 1 < s .properties
-  held-inside = rw (← (readable-long r)) (key-held k (entries m s) its some .inside)
+  held-inside = rw (← (tabled-long r)) (key-held k (entries m s) its some .inside)
 
   pub held-read : {e : Entry} → e ≡ getD (tableOf m s) (place - 1) noEntry
       → e ≡ getD (entries m s) (place - 1) noEntry

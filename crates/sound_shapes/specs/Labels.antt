@@ -24,8 +24,8 @@ use Rattle.rules.specs.Shapes.{isKey, tableOf, entries}
 use Rattle.rules.specs.Steps.{edgeKind}
 use Rattle.rules.specs.Sound.{inRange, tablesGood, distinct, goodEntries, onTable}
 use Rattle.rules.specs.Sound.{stepOf, goodLabel, goodChild}
-use Rattle.rules.specs.InUse.{EdgeRanges, edge-ranges}
-use Rattle.sound_shapes.specs.Keys.{readable, key-absent, key-held, held-read}
+use Rattle.rules.specs.InUse.{EdgeRanges, edge-ranges, tabled}
+use Rattle.sound_shapes.specs.Keys.{key-absent, key-held, held-read}
 use Rattle.sound_shapes.specs.Tests.{widthFits, leadsTo, Keyed}
 use Rattle.sound_shapes.specs.Tests.{goodEdge, TablesKnown}
 
@@ -46,7 +46,7 @@ module _ (m : Model) (s : Shape) (known : Keyed m s) where
         → r ≡ sameWidth (e .attributes) a → r ≡ widthFits k a (entries m s)
     held-answer some read answer =
         let h = key-held k (entries m s) sought some in
-        let its = held-read (known .readable) k sought some read in
+        let its = held-read (known .tabled) k sought some read in
         rw (h .held, ← (h .attributes), ← its) answer
 
 -- ## What a parent has
@@ -77,7 +77,7 @@ module _
     pub parent-keyed : Keyed m s
     parent-keyed =
         record {
-          readable = readable m (known .inUse) (known .counts) n read (rw state refl);
+          tabled = tabled m (known .inUse) (known .counts) n read (rw state refl);
           good = good-table;
         }
 

@@ -19,7 +19,7 @@ use Rattle.sound_shapes.specs.declared.Sentence.the-variants.{ShapesGood
 -- ## Tests joined
 
 -- A test that does not see the place.
-pub unplaced : {A : Type 0} (test : A → Bool) (start : ℕ) (xs : List A)
+unplaced : {A : Type 0} (test : A → Bool) (start : ℕ) (xs : List A)
     → every (λ p. test (p .1)) (numbered start xs) ≡ every test xs
 unplaced test start [] = refl
 unplaced test start (x ∷ xs) = ap (λ (b : Bool). test x && b) (unplaced test (suc start) xs)
@@ -31,7 +31,7 @@ swap-middle true false false d = refl
 swap-middle false b c d = refl
 
 -- Tests of each record join,
-pub every-joins : {A : Type 0} (test other : A → Bool) (xs : List A)
+every-joins : {A : Type 0} (test other : A → Bool) (xs : List A)
     → (every test xs && every other xs) ≡ every (λ x. test x && other x) xs
 every-joins test other [] = refl
 every-joins test other (x ∷ xs) =
@@ -44,7 +44,7 @@ every-same-test h [] = refl
 every-same-test h (x ∷ xs) = ap₂ _&&_ (h x) (every-same-test h xs)
 
 -- so do the sentences about each shape in use.
-pub each-joins : (m : Model) (test other : ℕ → Shape → Bool)
+each-joins : (m : Model) (test other : ℕ → Shape → Bool)
     → (eachShape m test && eachShape m other) ≡ eachShape m (λ n s. test n s && other n s)
 each-joins m test other =
     every-joins _ _ (numbered 1 (m .shapes))
@@ -59,7 +59,7 @@ each-true m = sym (always (numbered 1 (m .shapes)))
     always [] = refl
     always (p ∷ ps) = rw (or-true (freeShape (p .1)), always ps)
 
-pub all-join : (m : Model) (tests : List (Shape → Bool))
+all-join : (m : Model) (tests : List (Shape → Bool))
     → all (map (λ test. eachShape m (λ n s. test s)) tests)
     ≡ eachShape m (λ n s. all (map (λ test. test s) tests))
 all-join m [] = each-true m

@@ -20,7 +20,7 @@ use Rattle.rules.specs.Shapes.{has, attributesIn, unique, isRoot, shared, table
 use Rattle.rules.specs.Steps.{alike, edgeKind}
 use Rattle.rules.specs.Sound.{stepOf, goodLabel, goodChild, inRange, tableInUse, tablesGood, countsFit}
 use Rattle.rules.specs.Sound.{noTwoAlike}
-use Rattle.sound_shapes.specs.Keys.{Readable}
+use Rattle.rules.specs.InUse.{Tabled}
 use Rattle.sound_shapes.specs.declared.Sentence.{Sentence}
 use Rattle.sound_shapes.specs.declared.Sentence.the-variants.{ShapesInRange, EdgesInRange}
 use Rattle.sound_shapes.specs.declared.Sentence.the-variants.{FreeShapesZero, FreeEdgesZero}
@@ -88,7 +88,7 @@ leadsTo s e = shared s && eqb (s .previous) (e .parent) && eqb (edgeKind (stepOf
 
 -- A shape's entries can be read, and its table's attributes are good.
 pub record Keyed (m : Model) (s : Shape) : Type 0 where
-  pub readable : Readable m s
+  pub tabled : Tabled m s
   pub good : every (λ e. goodAttributes (e .attributes)) (tableOf m s) ≡ true
 
 abbrev pub goodEdge : Model → Edge → Bool

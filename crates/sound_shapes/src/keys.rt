@@ -7,12 +7,12 @@ ghost use Rattle.store.specs.Lists.{lowest};
 ghost use Rattle.store.specs.Layout.{parse};
 ghost use Rattle.store.specs.Image.{Formed};
 ghost use Rattle.rules.specs.Shapes.{isKey, entries};
-ghost use Rattle.sound_shapes.specs.Keys.{Readable};
+ghost use Rattle.rules.specs.InUse.{Tabled};
 
 // The place of a key among a shape's entries, 0 where it is absent.
 pub fn place_of_key(image: &[u32], s: Shape, key: u32) -> u32
     requires { ⌜ Formed (now image) ⌝ }
-    requires { ⌜ Readable (parse (now image)) s ⌝ }
+    requires { ⌜ Tabled (parse (now image)) s ⌝ }
     ensures { λ r. ⌜ r ≡ lowest (isKey key) 1 (entries (parse (now (image .entry))) s) ⌝ }
 {
     let count = s.properties;

@@ -7,7 +7,7 @@ use mathlib.Core.Logic.{_⊎_, inl, inr, _≢_}
 use Prim.Native.Nat.{ℕ, zero, suc, _+_, _≤_, _<_}
 use native.Mathlib.Numerals.{add-one}
 use native.Mathlib.Omega.{arith}
-use borrow.Author.Tests.{eqb-true, eqb-false, ne-eqb, eq-eqb, ltb-true, lt-ltb, not-true}
+use borrow.Author.Tests.{eqb-false, ne-eqb, eq-eqb, ltb-true, lt-ltb, not-true}
 use lib.Dec.{eqb, ltb}
 use lib.ListN.{length, getD, set, take, replicate, length-set, length-replicate}
 use lib.Seq.{take-suc, take-all, getD-set-same, getD-set-other}
@@ -22,7 +22,7 @@ use Rattle.store.specs.declared.Shape.{Shape}
 use Rattle.store.specs.declared.Edge.{Edge}
 use Rattle.rules.specs.Shapes.{shared, isChild}
 use Rattle.rules.specs.Sound.{inRange, edgesTo, childrenLinked}
-use Rattle.rules.specs.InUse.{shape-ranges}
+use Rattle.rules.specs.InUse.{shared-used, shape-ranges}
 
 -- ## The marks
 
@@ -166,9 +166,6 @@ childTest s b = freeShape s || (not (isChild s) || b)
 
 pub no-child : {s its : Shape} (b : Bool) → s ≡ its → isChild s ≡ false → true ≡ childTest its b
 no-child {s} b its e = rw (← its, e) (sym (or-true (freeShape s)))
-
-pub shared-used : (s : Shape) → shared s ≡ true → freeShape s ≡ false
-shared-used s e = ne-eqb (s .state) 0 (λ z. omega (arith, eqb-true (s .state) 1 e))
 
 pub a-child : (s : Shape) (b : Bool) → isChild s ≡ true → b ≡ childTest s b
 a-child s b e = rw (shared-used s (and-both (shared s) e .0), e)

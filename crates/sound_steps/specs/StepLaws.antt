@@ -13,7 +13,7 @@ use lib.ListN.{length, getD, take, length-map, length-append}
 use lib.Seq.{take-take, getD-take, length-take-le}
 use Rattle.slot.specs.If.{if_then_else_}
 use Rattle.slot.specs.Attributes.{width}
-use Rattle.store.specs.Lists.{at, numbered, lowest, every, onlyOne, agree}
+use Rattle.store.specs.Lists.{at, lowest, every, onlyOne, agree}
 use Rattle.store.specs.ListLaws.{and-both, every-numbered}
 use Rattle.store.specs.Model.{Model, noShape, noEdge, noEntry}
 use Rattle.store.specs.Model.{shapeAt}
@@ -27,9 +27,9 @@ use Rattle.rules.specs.Shapes.{entry, isKey, has, widths, pairs, shared}
 use Rattle.rules.specs.Shapes.{isChild, tableOf, entries}
 use Rattle.rules.specs.Steps.{configure, prototype, mayStep, stepEntries, stepPrototype}
 use Rattle.rules.specs.Sound.{inRange, tableInUse, countsFit, edgesTo, childrenLinked, stepOf, leads}
-use Rattle.rules.specs.Sound.{childrenStepped}
-use Rattle.sound_shapes.specs.Keys.{Readable, readable, readable-long, key-absent, key-held}
-use Rattle.sound_steps.specs.Links.{Marked, none, one, several, childTest, a-child, shared-used}
+use Rattle.rules.specs.InUse.{shared-used, Tabled, tabled}
+use Rattle.sound_shapes.specs.Keys.{tabled-long, key-absent, key-held}
+use Rattle.sound_steps.specs.Links.{Marked, none, one, several, childTest, a-child}
 use Rattle.sound_steps.specs.Links.{isLinked, linked-each}
 
 -- What is tested before a child's step.
@@ -39,9 +39,9 @@ pub record Tested (m : Model) : Type 0 where
   pub counts : countsFit m ≡ true
   pub linked : childrenLinked m ≡ true
 
-pub shared-readable : {m : Model} → Tested m → (n : ℕ) {s : Shape} → s ≡ shapeAt m n → shared s ≡ true
-    → Readable m s
-shared-readable {m} t n {s} its e = readable m (t .inUse) (t .counts) n its (shared-used s e)
+pub shared-tabled : {m : Model} → Tested m → (n : ℕ) {s : Shape} → s ≡ shapeAt m n → shared s ≡ true
+    → Tabled m s
+shared-tabled {m} t n {s} its e = tabled m (t .inUse) (t .counts) n its (shared-used s e)
 
 -- ## Entry by entry
 
@@ -62,7 +62,7 @@ module _ (step : Entry → Entry) where
   abbrev pub follows : Entry × Entry → Bool
   follows (f, e) = samePair f (step e)
 
-  pub agree-both : (fs es : List Entry) → length fs ≡ length es
+  agree-both : (fs es : List Entry) → length fs ≡ length es
       → every follows (both fs es) ≡ agree (pairs fs) (pairs (map step es))
   agree-both [] [] l = refl
   agree-both [] (e ∷ es) l = absurd (omega (arith, l))
@@ -81,12 +81,12 @@ both-at (f ∷ fs) [] k l h = absurd (not-suc-le-zero h)
 both-at (f ∷ fs) (e ∷ es) zero l h = refl
 both-at (f ∷ fs) (e ∷ es) (suc k) l h = both-at fs es k (omega (arith, l)) (le-of-suc-le-suc h)
 
-pub changed-never : (edge : Edge) (es : List Entry) → map (changed false edge) es ≡ es
+changed-never : (edge : Edge) (es : List Entry) → map (changed false edge) es ≡ es
 changed-never edge [] = refl
 changed-never edge (e ∷ es) = ap (λ (more : List Entry). e ∷ more) (changed-never edge es)
 
 -- Lists of other lengths do not agree.
-pub lengths-differ : (fs es : List Entry) → length fs ≢ length es → false ≡ agree (pairs fs) (pairs es)
+lengths-differ : (fs es : List Entry) → length fs ≢ length es → false ≡ agree (pairs fs) (pairs es)
 lengths-differ [] [] ne = absurd (ne refl)
 lengths-differ [] (e ∷ es) ne = refl
 lengths-differ (f ∷ fs) [] ne = refl
@@ -163,13 +163,13 @@ abbrev pub firstFollow : Model → (previous child : Shape) → Edge → (config
 firstFollow m p s edge configures =
     agree (pairs (take (p .properties) (tableOf m s))) (pairs (map (changed configures edge) (entries m p)))
 
-module _ {m : Model} {p s : Shape} (old : Readable m p) (new : Readable m s) (edge : Edge) where
+module _ {m : Model} {p s : Shape} (old : Tabled m p) (new : Tabled m s) (edge : Edge) where
   pub insert-differs : s .step ≡ 0 → s .properties ≢ p .properties + 1 → false ≡ entriesFollow m p s edge
   insert-differs e ne =
       let es = entries m p in
       let new-entry = entry (edge .label) (edge .attributes) (widths es) in
-      let few = readable-long old in
-      let many = readable-long new in
+      let few = tabled-long old in
+      let many = tabled-long new in
       rw e
       (lengths-differ (entries m s) (es ++ new-entry ∷ [])
       (λ q. ne (omega (arith, q, length-append es (new-entry ∷ [])))))
@@ -180,8 +180,8 @@ module _ {m : Model} {p s : Shape} (old : Readable m p) (new : Readable m s) (ed
       ≡ entriesFollow m p s edge
   insert-follows e longer f l =
       let es = entries m p in
-      let few = readable-long old in
-      let many = readable-long new in
+      let few = tabled-long old in
+      let many = tabled-long new in
       let new-entry = entry (edge .label) (edge .attributes) (widths es) in
       let all = last-agrees (entries m s) es new-entry (omega arith) in
       let before : take (p .properties) (entries m s) ≡ take (p .properties) (tableOf m s)
@@ -195,8 +195,8 @@ module _ {m : Model} {p s : Shape} (old : Readable m p) (new : Readable m s) (ed
     others-differ differ =
         let es = entries m p in
         let after = map (changed (eqb (s .step) 1) edge) es in
-        let few = readable-long old in
-        let many = readable-long new in
+        let few = tabled-long old in
+        let many = tabled-long new in
         rw (← (kept-entries (s .step) edge es ne))
         (lengths-differ (entries m s) after
         (λ q. differ (omega (arith, q, length-map es (changed (eqb (s .step) 1) edge)))))
@@ -219,8 +219,8 @@ Comparing m p s edge configures done =
 module _
     {m : Model}
     {p s : Shape}
-    (old : Readable m p)
-    (new : Readable m s)
+    (old : Tabled m p)
+    (new : Tabled m s)
     (fits : p .properties ≤ s .properties)
     (edge : Edge)
     (configures : Bool)
@@ -228,10 +228,10 @@ module _
     as-long : length (take (p .properties) (tableOf m s)) ≡ length (entries m p)
     as-long =
         let room = new .fits in
-        length-take-le (p .properties) (tableOf m s) (omega arith) ∙ sym (readable-long old)
+        length-take-le (p .properties) (tableOf m s) (omega arith) ∙ sym (tabled-long old)
 
     many : length (compared m p s) ≡ p .properties
-    many = length-both (take (p .properties) (tableOf m s)) (entries m p) as-long ∙ readable-long old
+    many = length-both (take (p .properties) (tableOf m s)) (entries m p) as-long ∙ tabled-long old
 
     ends : every (follows (changed configures edge)) (compared m p s) ≡ firstFollow m p s edge configures
     ends = agree-both (changed configures edge) (take (p .properties) (tableOf m s)) (entries m p) as-long
@@ -249,7 +249,7 @@ module _
           tested : follows (changed configures edge) (getD (compared m p s) done (noEntry, noEntry)) ≡ r
           tested =
               let firsts = take (p .properties) (tableOf m s) in
-              let few = readable-long old in
+              let few = tabled-long old in
               let pair = both-at firsts (entries m p) done as-long (omega arith) in
               rw (
                 pair,
@@ -278,10 +278,6 @@ isStepped m (n, s) =
     childTest s
     (every (λ e. leads (stepOf (s .step) e) (entries m p) (p .prototype) (entries m s) (s .prototype))
     (edgesTo m n))
-
-pub stepped-each : (m : Model) → childrenStepped m ≡ every (isStepped m) (numbered 1 (m .shapes))
-unfolding childrenStepped
-stepped-each m = refl
 
 -- What the link of a child says.
 pub linked-says : {m : Model} → Tested m → (n : ℕ) {s p : Shape} → s ≡ shapeAt m n → isChild s ≡ true

@@ -22,7 +22,7 @@ ghost use Rattle.rules.specs.Shapes.{entries};
 ghost use Rattle.rules.specs.Steps.{mayStep, stepPrototype};
 ghost use Rattle.rules.specs.Sound.{edgesTo, stepOf, leads, childrenStepped};
 ghost use Rattle.sound_steps.specs.Links.{Marked};
-ghost use Rattle.sound_shapes.specs.Keys.{Readable};
+ghost use Rattle.rules.specs.InUse.{Tabled};
 ghost use Rattle.sound_steps.specs.StepLaws.{Tested, samePair, changed, isStepped};
 ghost use Rattle.sound_steps.specs.StepLaws.{firstFollow, entriesFollow};
 
@@ -39,7 +39,7 @@ fn width(attributes: u32) -> u32
 
 fn may_step(image: &[u32], p: Shape, kind: u32, edge: Edge) -> bool
     requires { ⌜ Formed (now image) ⌝ }
-    requires { ⌜ Readable (parse (now image)) p ⌝ }
+    requires { ⌜ Tabled (parse (now image)) p ⌝ }
     ensures { λ r. ⌜ r ≡ mayStep (stepOf kind edge) (entries (parse (now (image .entry))) p) ⌝ }
 {
     if kind > 1 {
@@ -81,8 +81,8 @@ fn entry_after(configures: bool, edge: Edge, e: Entry) -> Entry
 // stands after those of the previous.
 fn same_first(image: &[u32], p: Shape, s: Shape, edge: Edge, configures: bool) -> bool
     requires { ⌜ Formed (now image) ⌝ }
-    requires { ⌜ Readable (parse (now image)) p ⌝ }
-    requires { ⌜ Readable (parse (now image)) s ⌝ }
+    requires { ⌜ Tabled (parse (now image)) p ⌝ }
+    requires { ⌜ Tabled (parse (now image)) s ⌝ }
     requires { ⌜ p .properties ≤ s .properties ⌝ }
     ensures { λ r. ⌜ r ≡ firstFollow (parse (now (image .entry))) p s edge configures ⌝ }
 {
@@ -101,8 +101,8 @@ fn same_first(image: &[u32], p: Shape, s: Shape, edge: Edge, configures: bool) -
 
 fn entries_follow(image: &[u32], p: Shape, s: Shape, edge: Edge) -> bool
     requires { ⌜ Formed (now image) ⌝ }
-    requires { ⌜ Readable (parse (now image)) p ⌝ }
-    requires { ⌜ Readable (parse (now image)) s ⌝ }
+    requires { ⌜ Tabled (parse (now image)) p ⌝ }
+    requires { ⌜ Tabled (parse (now image)) s ⌝ }
     ensures { λ r. ⌜ r ≡ entriesFollow (parse (now (image .entry))) p s edge ⌝ }
 {
     let before = p.properties;
@@ -128,8 +128,8 @@ fn prototype_after(kind: u32, edge: Edge, prototype: u32) -> u32
 
 fn leads(image: &[u32], p: Shape, s: Shape, edge: Edge) -> bool
     requires { ⌜ Formed (now image) ⌝ }
-    requires { ⌜ Readable (parse (now image)) p ⌝ }
-    requires { ⌜ Readable (parse (now image)) s ⌝ }
+    requires { ⌜ Tabled (parse (now image)) p ⌝ }
+    requires { ⌜ Tabled (parse (now image)) s ⌝ }
     ensures { λ r. ⌜
         r ≡ leads (stepOf (s .step) edge) (entries (parse (now (image .entry))) p) (p .prototype)
         (entries (parse (now (image .entry))) s) (s .prototype)

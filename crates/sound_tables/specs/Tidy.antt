@@ -83,7 +83,7 @@ module _ (ws : List ℕ) where
     header-there = let long = facts .1 in omega arith
 
     -- The sixth word says where the tables lie: within the image.
-    pub tables-word : getD ws 5 0 ≡ tablesOffset (limitsIn ws)
+    tables-word : getD ws 5 0 ≡ tablesOffset (limitsIn ws)
     tables-word = sym (getD-take 8 ws 5 0 (omega arith)) ∙ ap (λ (r : List ℕ). getD r 5 0) (facts .0)
 
     module _

@@ -47,7 +47,7 @@ count-records (k ∷ l ∷ a ∷ ws) = let n = count-records ws in omega arith
 pub step-inside : (ws : List ℕ) (i : ℕ) → i < length (records ws) → 3 * i + 3 ≤ length ws
 step-inside ws i h = let n = count-records ws in omega arith
 
-pub step-read : (ws : List ℕ) (i : ℕ) → i < length (records ws)
+step-read : (ws : List ℕ) (i : ℕ) → i < length (records ws)
     → midOf (3 * i) 3 ws ≡ stepWords (getD (records ws) i noStep)
 step-read [] i h = absurd (not-suc-le-zero h)
 step-read (k ∷ []) i h = absurd (not-suc-le-zero h)
@@ -56,7 +56,7 @@ step-read (k ∷ l ∷ a ∷ ws) zero h = refl
 step-read (k ∷ l ∷ a ∷ ws) (suc i) h =
     rw (mul-suc-left, mid-past (k ∷ l ∷ a ∷ []) ws 3 (3 * i) 3 refl) (step-read ws i (le-of-suc-le-suc h))
 
-pub step-write : (ws : List ℕ) (i : ℕ) (t : StepRecord) → i < length (records ws)
+step-write : (ws : List ℕ) (i : ℕ) (t : StepRecord) → i < length (records ws)
     → records (putMid (3 * i) 3 ws (stepWords t)) ≡ set (records ws) i t
 step-write [] i t h = absurd (not-suc-le-zero h)
 step-write (k ∷ []) i t h = absurd (not-suc-le-zero h)

@@ -81,7 +81,7 @@ edit es rest i old new x h =
     (ap (λ (ws : List ℕ). set ws 0 new)
     (area-write entries-written (old ∷ []) es rest 1 (suc i) x refl (every-always es) (omega arith) h))
 
-pub entry-set : (K : ℕ) (t : Table) (i : ℕ) (x : Entry) → i < length (entriesOf t)
+entry-set : (K : ℕ) (t : Table) (i : ℕ) (x : Entry) → i < length (entriesOf t)
     → edited (tableWords K t) i x (countWord t) ≡ tableWords K (used (set (entriesOf t) i x))
 entry-set K free i x h = absurd (not-suc-le-zero h)
 entry-set K (used es) i x h = edit es _ i _ _ x h ∙ rw length-set
@@ -103,7 +103,7 @@ unused K es h =
 one-more : (es : List Entry) (x : Entry) → length (es ++ x ∷ []) ≡ suc (length es)
 one-more es x = length-append es (x ∷ []) ∙ omega arith
 
-pub entry-added : (K : ℕ) (t : Table) (x : Entry) → freeTable t ≡ false → length (entriesOf t) < K
+entry-added : (K : ℕ) (t : Table) (x : Entry) → freeTable t ≡ false → length (entriesOf t) < K
     → edited (tableWords K t) (length (entriesOf t)) x (suc (countWord t))
     ≡ tableWords K (used (entriesOf t ++ x ∷ []))
 entry-added K free x u h = absurd (true≢false u)

@@ -122,9 +122,6 @@ pub record Sound (m : Model) : Type 0 where
 
 -- ## Small consequences
 
-pub shared-used : (s : Shape) → shared s ≡ true → freeShape s ≡ false
-shared-used s h = ap (λ (x : ℕ). eqb x 0) (eqb-true (s .state) 1 h)
-
 pub unique-used : (s : Shape) → unique s ≡ true → freeShape s ≡ false
 unique-used s h = ap (λ (x : ℕ). eqb x 0) (eqb-true (s .state) 2 h)
 

@@ -8,7 +8,7 @@ use Rattle.store.specs.Layout.{parse}
 use Rattle.store.specs.Model.{noEntry}
 use Rattle.store.specs.Scans.{Scanning, lowestScan, scan, stopped, went-on, ended}
 use Rattle.rules.specs.Shapes.{isKey, entries}
-use Rattle.sound_shapes.specs.Keys.{readable-long, key-tested}
+use Rattle.sound_shapes.specs.Keys.{tabled-long, key-tested}
 use borrow.Author.Needs.{needs}
 use Rattle.sound_shapes.proofs.keys.place_of_key.Statement.{statement}
 use Rattle.sound_shapes.proofs.keys.place_of_key.Tie as tie
@@ -42,7 +42,7 @@ returns c =
     let args = c .before .before .before .before .before .before .args in
     let get-entry = c .before .before .get-entry in
     let if1 = c .if1 in
-    stopped (loop .inv) (sym (readable-long (pre .1))) (loop-test .taken) (key-tested (pre .1) (args .key) (loop-test .taken) (get-entry .ensures)) (eq-eqb _ _ (if1 .taken))
+    stopped (loop .inv) (sym (tabled-long (pre .1))) (loop-test .taken) (key-tested (pre .1) (args .key) (loop-test .taken) (get-entry .ensures)) (eq-eqb _ _ (if1 .taken))
 
 add-done : tie.Need-add-done Inv-loop μ-loop
 add-done c = search needs
@@ -58,14 +58,14 @@ loop-again c =
     let args = c .before .before .before .before .before .before .args in
     let get-entry = c .before .before .get-entry in
     let if1 = c .if1 in
-    went-on (loop .inv) (sym (readable-long (pre .1))) (loop-test .taken) (key-tested (pre .1) (args .key) (loop-test .taken) (get-entry .ensures)) (ne-eqb _ _ (if1 .left))
+    went-on (loop .inv) (sym (tabled-long (pre .1))) (loop-test .taken) (key-tested (pre .1) (args .key) (loop-test .taken) (get-entry .ensures)) (ne-eqb _ _ (if1 .left))
 
 returns-2 : tie.Need-returns-2 Inv-loop μ-loop
 returns-2 c =
     let loop = c .before .loop in
     let pre = c .before .before .before .pre in
     let loop-test = c .loop-test in
-    ended (loop .inv) (sym (readable-long (pre .1))) (loop-test .left)
+    ended (loop .inv) (sym (tabled-long (pre .1))) (loop-test .left)
 
 pub place-of-key-spec : {M : Type 1} → statement M
 place-of-key-spec =

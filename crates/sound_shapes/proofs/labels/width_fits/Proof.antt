@@ -10,7 +10,7 @@ use Rattle.sound_shapes.proofs.labels.width_fits.Statement.{statement}
 use Rattle.sound_shapes.proofs.labels.width_fits.Tie as tie
 
 place-of-key-requires : tie.Need-place-of-key-requires
-place-of-key-requires c κs = let pre = c .before .pre in (pre .0, pre .1 .0 .readable)
+place-of-key-requires c κs = let pre = c .before .pre in (pre .0, pre .1 .0 .tabled)
 
 returns : tie.Need-returns
 returns c =
@@ -32,11 +32,11 @@ get-entry-requires c κs =
     let if1 = c .if1 in (
       pre .0,
       (
-        pre .1 .0 .readable .table,
+        pre .1 .0 .tabled .table,
         omega (
           arith,
-          held-inside (pre .1 .0 .readable) (args .key) (place-of-key .ensures) (if1 .left),
-          pre .1 .0 .readable .fits,
+          held-inside (pre .1 .0 .tabled) (args .key) (place-of-key .ensures) (if1 .left),
+          pre .1 .0 .tabled .fits,
         ),
       ),
     )
