@@ -83,7 +83,8 @@ module _ (n kind : ℕ) {before : List ℕ} where
   pub prune-start : Formed before → Pruning n kind before before 0
   prune-start f = pass-start ofEdges _ f (length-map (parse before .edges) (unlessDead n kind))
 
-  pub prune-next : {now after : List ℕ} {done : ℕ} → Pruning n kind before now done → done < length (parse before .edges)
+  pub prune-next : {now after : List ℕ} {done : ℕ} → Pruning n kind before now done
+      → done < length (parse before .edges)
       → Becomes now after
       (putEdge (parse now) (done + 1) (unlessDead n kind (edgeAt (parse now) (done + 1))))
       → Pruning n kind before after (done + 1)

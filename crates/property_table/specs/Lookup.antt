@@ -40,7 +40,8 @@ lookScan key =
 pub first-count : {n : ℕ} (es : List Entry) → n ≤ length es → n ≡ length (take n es)
 first-count {n} es inside = sym (length-take-le n es inside)
 
-module _ (key : ℕ) {n : ℕ} (es : List Entry) {i : ℕ} (l : i < n) {e : Entry} (read : e ≡ getD es i noEntry) where
+module _ (key : ℕ) {n : ℕ} (es : List Entry) {i : ℕ} (l : i < n) {e : Entry}
+    (read : e ≡ getD es i noEntry) where
   pub key-tested : eqb (e .key) key ≡ lookScan key (take n es) .stops i
   key-tested = rw (getD-take n es i noEntry l, read)
 

@@ -11,7 +11,8 @@ use Rattle.slot.specs.If.{if_then_else_}
 use Rattle.slot.specs.Attributes.{goodAttributes, sameWidth}
 use Rattle.store.specs.Lists.{every, any, all, zeros}
 use Rattle.store.specs.Scans.{Scan, scanOf, everyScan, and-if, shape-next, edge-next}
-use Rattle.store.specs.Model.{Model, noShape, noEdge, freeShape, freeTable, freeEdge, shapeAt, tableAt, edgeAt}
+use Rattle.store.specs.Model.{Model, noShape, noEdge, freeShape, freeTable, freeEdge}
+use Rattle.store.specs.Model.{shapeAt, tableAt, edgeAt}
 use Rattle.store.specs.Layout.{shapeWords, edgeWords}
 use Rattle.store.specs.declared.Shape.{Shape}
 use Rattle.store.specs.declared.Entry.{Entry}

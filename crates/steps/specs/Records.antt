@@ -80,7 +80,8 @@ module _ (ws : List ℕ) (i : ℕ) (h : i < length (records ws)) {a b : ℕ} (st
 -- ## The steps from one on
 
 -- A step was read: it is the first of those from there on.
-pub next-step : (ws : List ℕ) (i : ℕ) {t : StepRecord} → i < length (records ws) → t ≡ getD (records ws) i noStep
+pub next-step : (ws : List ℕ) (i : ℕ) {t : StepRecord} → i < length (records ws)
+    → t ≡ getD (records ws) i noStep
     → drop i (stepsIn ws) ≡ stepIn t ∷ drop (suc i) (stepsIn ws)
 next-step ws i inside read =
     drop-cons (stepsIn ws) i (stepIn noStep) (rw (length-map (records ws) stepIn) inside)

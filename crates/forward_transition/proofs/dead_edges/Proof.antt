@@ -45,7 +45,13 @@ add-found c =
     let loop = c .before .before .before .before .loop in
     let edge-count = c .before .before .before .before .before .edge-count in
     let pre = c .before .before .before .before .before .before .before .pre in
-    omega (arith, at-most-one (is-dead .result) (one-if .ensures), loop .inv .few, edge-count .ensures, pre .limited .edges)
+    omega (
+      arith,
+      at-most-one (is-dead .result) (one-if .ensures),
+      loop .inv .few,
+      edge-count .ensures,
+      pre .limited .edges,
+    )
 
 add-seen : tie.Need-add-seen Inv-loop μ-loop
 add-seen c = search needs
@@ -61,7 +67,9 @@ loop-again c =
     let args = c .before .before .before .before .before .before .before .args in
     let get-edge = c .before .before .get-edge in
     let one-if = c .one-if in
-    count-next _ (loop .inv) noEdge (omega (arith, edge-count .ensures)) (is-dead .ensures ∙ ap (dead (args .parent) (args .kind)) (get-edge .ensures ∙ edge-next _ _)) (one-if .ensures)
+    count-next _ (loop .inv) noEdge (omega (arith, edge-count .ensures))
+    (is-dead .ensures ∙ ap (dead (args .parent) (args .kind)) (get-edge .ensures ∙ edge-next _ _))
+    (one-if .ensures)
 
 returns : tie.Need-returns Inv-loop μ-loop
 returns c =

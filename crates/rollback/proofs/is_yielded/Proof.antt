@@ -39,8 +39,10 @@ returns c =
     let loop = c .before .before .before .before .loop in
     let args = c .before .before .before .before .before .before .before .args in
     let step-count = c .before .before .before .before .before .step-count in
-    stopped (loop .inv) (steps-many (now (args .steps)) (step-count .ensures)) (c .before .before .before .loop-test .taken)
-    (step-tested (now (args .steps)) (args .key) (loop .i) (c .before .before .get-step .ensures)) (eq-eqb _ _ (c .if1 .taken))
+    stopped (loop .inv) (steps-many (now (args .steps)) (step-count .ensures))
+    (c .before .before .before .loop-test .taken)
+    (step-tested (now (args .steps)) (args .key) (loop .i) (c .before .before .get-step .ensures))
+    (eq-eqb _ _ (c .if1 .taken))
 
 add-i : tie.Need-add-i Inv-loop μ-loop
 add-i c = search needs
@@ -53,8 +55,10 @@ loop-again c =
     let loop = c .before .before .before .before .loop in
     let args = c .before .before .before .before .before .before .before .args in
     let step-count = c .before .before .before .before .before .step-count in
-    went-on (loop .inv) (steps-many (now (args .steps)) (step-count .ensures)) (c .before .before .before .loop-test .taken)
-    (step-tested (now (args .steps)) (args .key) (loop .i) (c .before .before .get-step .ensures)) (ne-eqb _ _ (c .if1 .left))
+    went-on (loop .inv) (steps-many (now (args .steps)) (step-count .ensures))
+    (c .before .before .before .loop-test .taken)
+    (step-tested (now (args .steps)) (args .key) (loop .i) (c .before .before .get-step .ensures))
+    (ne-eqb _ _ (c .if1 .left))
 
 returns-2 : tie.Need-returns-2 Inv-loop μ-loop
 returns-2 c =

@@ -42,7 +42,8 @@ returns c =
     let args = c .before .before .before .before .before .before .args in
     let get-entry = c .before .before .get-entry in
     let if1 = c .if1 in
-    stopped (loop .inv) (sym (tabled-long (pre .1))) (loop-test .taken) (key-tested (pre .1) (args .key) (loop-test .taken) (get-entry .ensures)) (eq-eqb _ _ (if1 .taken))
+    stopped (loop .inv) (sym (tabled-long (pre .1))) (loop-test .taken)
+    (key-tested (pre .1) (args .key) (loop-test .taken) (get-entry .ensures)) (eq-eqb _ _ (if1 .taken))
 
 add-done : tie.Need-add-done Inv-loop μ-loop
 add-done c = search needs
@@ -58,7 +59,8 @@ loop-again c =
     let args = c .before .before .before .before .before .before .args in
     let get-entry = c .before .before .get-entry in
     let if1 = c .if1 in
-    went-on (loop .inv) (sym (tabled-long (pre .1))) (loop-test .taken) (key-tested (pre .1) (args .key) (loop-test .taken) (get-entry .ensures)) (ne-eqb _ _ (if1 .left))
+    went-on (loop .inv) (sym (tabled-long (pre .1))) (loop-test .taken)
+    (key-tested (pre .1) (args .key) (loop-test .taken) (get-entry .ensures)) (ne-eqb _ _ (if1 .left))
 
 returns-2 : tie.Need-returns-2 Inv-loop μ-loop
 returns-2 c =

@@ -65,8 +65,9 @@ returns c =
     let loop-test = c .before .before .before .loop-test in
     let shape-count = c .before .before .before .before .before .shape-count in
     let is-linked = c .before .is-linked in
+    let m = parse (now (args .image)) in
     stopped (loop .inv) (shape-count .ensures) (loop-test .taken)
-    (child-tested (parse (now (args .image))) (isLinked (parse (now (args .image)))) (loop .done) (is-linked .ensures)) (c .if1 .taken)
+    (child-tested m (isLinked m) (loop .done) (is-linked .ensures)) (c .if1 .taken)
 
 loop-less : tie.Need-loop-less Inv-loop μ-loop
 loop-less c = search needs
@@ -78,8 +79,9 @@ loop-again c =
     let loop-test = c .before .before .before .loop-test in
     let shape-count = c .before .before .before .before .before .shape-count in
     let is-linked = c .before .is-linked in
+    let m = parse (now (args .image)) in
     went-on (loop .inv) (shape-count .ensures) (loop-test .taken)
-    (child-tested (parse (now (args .image))) (isLinked (parse (now (args .image)))) (loop .done) (is-linked .ensures)) (c .if1 .left)
+    (child-tested m (isLinked m) (loop .done) (is-linked .ensures)) (c .if1 .left)
 
 returns-2 : tie.Need-returns-2 Inv-loop μ-loop
 returns-2 c = ended (c .before .loop .inv) (c .before .before .shape-count .ensures) (c .loop-test .left)

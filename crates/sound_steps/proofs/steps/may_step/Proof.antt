@@ -21,7 +21,8 @@ returns-2 c =
     let args = c .before .before .before .before .args in
     let place-of-key = c .before .place-of-key in
     let if2 = c .if2 in
-    may-insert (args .edge) (entries (parse (now (args .image))) (args .p)) (place-of-key .ensures) (if2 .taken)
+    may-insert (args .edge) (entries (parse (now (args .image))) (args .p)) (place-of-key .ensures)
+    (if2 .taken)
 
 returns-3 : tie.Need-returns-3
 returns-3 c =
@@ -72,7 +73,8 @@ returns-4 c =
     let width2 = c .width2 in
     may-configure (args .edge) (entries (parse (now (args .image))) (args .p)) (place-of-key .ensures)
     (if1 .left) (if2 .left) (if3 .left)
-    (held-read (pre .1) (args .edge .label) (place-of-key .ensures) (if3 .left) (get-entry .ensures)) (width .ensures) (width2 .ensures)
+    (held-read (pre .1) (args .edge .label) (place-of-key .ensures) (if3 .left) (get-entry .ensures))
+    (width .ensures) (width2 .ensures)
 
 pub may-step-spec : {M : Type 1} → statement M
 may-step-spec =

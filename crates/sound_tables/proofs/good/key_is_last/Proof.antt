@@ -57,7 +57,11 @@ returns c =
     let get-entry2 = c .before .before .get-entry2 in
     let if1 = c .if1 in
     let args = c .before .before .before .before .before .before .before .before .before .args in
-    stopped (loop .inv) (entry-count .ensures) (loop-test .taken) (ap (λ (e : Entry). eqb (get-entry .result .key) (e .key)) (get-entry2 .ensures)) (eq-eqb _ _ (if1 .taken)) ∙ none-after (entriesOf (tableAt (parse (now (args .image))) (args .t))) (args .position .0) (get-entry .ensures)
+    stopped (loop .inv) (entry-count .ensures) (loop-test .taken)
+    (ap (λ (e : Entry). eqb (get-entry .result .key) (e .key)) (get-entry2 .ensures))
+    (eq-eqb _ _ (if1 .taken))
+    ∙ none-after (entriesOf (tableAt (parse (now (args .image))) (args .t))) (args .position .0)
+    (get-entry .ensures)
 
 add-done-2 : tie.Need-add-done-2 Inv-loop μ-loop
 add-done-2 c = search needs
@@ -73,7 +77,9 @@ loop-again c =
     let get-entry = c .before .before .before .before .before .before .get-entry in
     let get-entry2 = c .before .before .get-entry2 in
     let if1 = c .if1 in
-    went-on (loop .inv) (entry-count .ensures) (loop-test .taken) (ap (λ (e : Entry). eqb (get-entry .result .key) (e .key)) (get-entry2 .ensures)) (ne-eqb _ _ (if1 .left))
+    went-on (loop .inv) (entry-count .ensures) (loop-test .taken)
+    (ap (λ (e : Entry). eqb (get-entry .result .key) (e .key)) (get-entry2 .ensures))
+    (ne-eqb _ _ (if1 .left))
 
 returns-2 : tie.Need-returns-2 Inv-loop μ-loop
 returns-2 c =
@@ -82,7 +88,9 @@ returns-2 c =
     let loop-test = c .loop-test in
     let args = c .before .before .before .before .before .before .args in
     let get-entry = c .before .before .before .get-entry in
-    ended (loop .inv) (entry-count .ensures) (loop-test .left) ∙ none-after (entriesOf (tableAt (parse (now (args .image))) (args .t))) (args .position .0) (get-entry .ensures)
+    ended (loop .inv) (entry-count .ensures) (loop-test .left)
+    ∙ none-after (entriesOf (tableAt (parse (now (args .image))) (args .t))) (args .position .0)
+    (get-entry .ensures)
 
 pub key-is-last-spec : {M : Type 1} → statement M
 key-is-last-spec =

@@ -14,7 +14,8 @@ use Rattle.sound_tables.proofs.used.every_table_used.Tie as tie
 
 abbrev Inv-loop : tie.InvT-loop
 Inv-loop image users count done₀ done =
-    Scanning (placesScan free (tableUsed (parse image)) (parse image .tables)) done (everyTableUsed (parse image))
+    Scanning (placesScan free (tableUsed (parse image)) (parse image .tables)) done
+    (everyTableUsed (parse image))
 
 abbrev μ-loop : tie.MeasureT-loop
 μ-loop image users count done₀ done = count - done

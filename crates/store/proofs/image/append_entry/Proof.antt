@@ -17,21 +17,32 @@ sub-t10 c =
     let count-word = c .before .count-word in
     let args = c .before .before .before .before .args in
     let pre = c .before .before .before .before .pre in
-    omega (arith, count-word .ensures, used-count (tableAt (parse (now (args .image))) (args .t)) (pre .1 .1 .0))
+    omega (
+      arith,
+      count-word .ensures,
+      used-count (tableAt (parse (now (args .image))) (args .t)) (pre .1 .1 .0),
+    )
 
 add-edit-entry : tie.Need-add-edit-entry
 add-edit-entry c =
     let count-word = c .before .count-word in
     let args = c .before .before .before .before .args in
     let pre = c .before .before .before .before .pre in
-    omega (arith, count-word .ensures, used-count (tableAt (parse (now (args .image))) (args .t)) (pre .1 .1 .0), pre .1 .1 .1, pre .0 .limited .keys)
+    omega (
+      arith,
+      count-word .ensures,
+      used-count (tableAt (parse (now (args .image))) (args .t)) (pre .1 .1 .0),
+      pre .1 .1 .1,
+      pre .0 .limited .keys,
+    )
 
 edit-entry-requires : tie.Need-edit-entry-requires
 edit-entry-requires c κs =
     let pre = c .before .before .before .before .pre in
     let count-word = c .before .count-word in
     let args = c .before .before .before .before .args in
-    (pre .0, (pre .1 .0, omega (arith, count-word .ensures, pre .1 .1 .1, used-count (tableAt (parse (now (args .image))) (args .t)) (pre .1 .1 .0))))
+    let one = used-count (tableAt (parse (now (args .image))) (args .t)) (pre .1 .1 .0) in
+    (pre .0, (pre .1 .0, omega (arith, count-word .ensures, pre .1 .1 .1, one)))
 
 same-length : tie.Need-same-length
 same-length c = search needs

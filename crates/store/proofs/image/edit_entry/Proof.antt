@@ -54,7 +54,8 @@ edit-table-requires c κs =
     let table-width = c .before .before .before .before .table-width in
     let row-at = c .before .row-at in
     let args = c .before .before .before .before .before .before .before .args in
-    entry-inside (pre .0) (pre .1 .0) (tables .ensures) (table-width .ensures) (row-at .ensures) refl (args .position .0) (pre .1 .1)
+    entry-inside (pre .0) (pre .1 .0) (tables .ensures) (table-width .ensures) (row-at .ensures) refl
+    (args .position .0) (pre .1 .1)
 
 same-length : tie.Need-same-length
 same-length c = search needs
@@ -67,7 +68,8 @@ returns c =
     let row-at = c .before .before .before .before .row-at in
     let args = c .before .before .before .before .before .before .before .before .before .before .args in
     let edit-table = c .before .before .edit-table in
-    edit-becomes (pre .0) (pre .1 .0) (tables .ensures) (table-width .ensures) (row-at .ensures) refl (args .position .0) (args .count) (args .e) (edit-table .ensures)
+    edit-becomes (pre .0) (pre .1 .0) (tables .ensures) (table-width .ensures) (row-at .ensures) refl
+    (args .position .0) (args .count) (args .e) (edit-table .ensures)
 
 pub edit-entry-spec : {M : Type 1} → statement M
 edit-entry-spec =

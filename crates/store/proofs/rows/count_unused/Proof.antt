@@ -47,7 +47,8 @@ loop-again c =
     let loop-test = c .before .before .loop-test in
     let one-if = c .one-if in
     let is-unused = c .before .is-unused in
-    count-next unused (loop .inv) [] (rw length-rows (loop-test .taken)) (is-unused .ensures) (one-if .ensures)
+    count-next unused (loop .inv) [] (rw length-rows (loop-test .taken)) (is-unused .ensures)
+    (one-if .ensures)
 
 returns : tie.Need-returns Inv-loop μ-loop
 returns c = counted-all unused (c .before .loop .inv) (rw length-rows (c .loop-test .left))
