@@ -24,7 +24,8 @@ use Rattle.rules.specs.Placing.{Passes, Places}
 use Rattle.rules.specs.Steps.{Step, insert, configure, prototype, edgeAttributes, mayStep, added, Placed}
 use Rattle.rules.specs.Steps.{copyTo, childTable}
 use Rattle.rules.specs.Sound.{distinct}
-use Rattle.theorems.specs.Facts.{GoodTable, used-table-inside}
+use Rattle.rules.specs.InUse.{used-table-inside}
+use Rattle.theorems.specs.Facts.{GoodTable}
 use Rattle.theorems.specs.Entries.{keys, good-keys, attributes-take}
 use Rattle.theorems.specs.Taken.{bind-passed, place-passed, place-lowest}
 use Rattle.property_table.specs.Slotted.{Slotted, good-slotted}

@@ -5,23 +5,24 @@ use mathlib.Core.List.{List}
 use mathlib.Core.Logic.{_≢_, inl, inr}
 use mathlib.Core.Option.{Option, none, some}
 use mathlib.Core.Path.{_≡_, refl, _∙_}
-use Prim.Native.Nat.{ℕ, _+_, _%_, _≤_, _<_}
+use Prim.Native.Nat.{ℕ, suc, _+_, _%_, _≤_, _<_}
 use borrow.Author.Tests.{eqb-true, eqb-false, eq-eqb, ne-eqb}
 use native.Mathlib.Omega.{arith}
 use lib.Dec.{eqb}
-use lib.ListN.{length}
+use lib.ListN.{length, length-map}
 use Rattle.slot.specs.If.{if_then_else_}
 use Rattle.store.specs.Lists.{lowest}
 use Rattle.store.specs.Model.{Model, noEdge, edgeAt, putEdge, shapeAt}
 use Rattle.store.specs.Layout.{parse}
 use Rattle.store.specs.Image.{Formed, Place, Becomes, unchanged, and-then}
 use Rattle.store.specs.PlaceLaws.{FirstOrNone, first-or-none, lowest-first, lowest-none, put-back}
+use Rattle.store.specs.PlaceLaws.{at-map}
+use Rattle.store.specs.Passes.{Pass, ofEdges, pass-start, pass-next}
 use Rattle.store.specs.ListLaws.{Decided, either}
 use Rattle.store.specs.declared.Edge.{Edge}
 use Rattle.rules.specs.declared.StepRecord.{StepRecord}
 use Rattle.rules.specs.Placing.{stepIn}
 use Rattle.rules.specs.Steps.{edgeOf, dead, prune, counter, putCounter, withEdges, pruned, counted}
-use Rattle.forward_transition.specs.Loops.{Changing, change-next}
 use Rattle.forward_transition.specs.declared.Transition.{Transition}
 use Rattle.forward_transition.specs.declared.Transition.the-variants.{Live, Dead, Absent}
 
@@ -75,16 +76,26 @@ module _ (n kind : ℕ) (ws : List ℕ) (p : ℕ) {e : Edge} (read : e ≡ edgeA
   left other formed = rw (← read, ← tested, other, read, put-edge-back) (unchanged formed)
 
 -- The loop: so many edges are pruned.
-abbrev pub Pruning : (parent kind : ℕ) (before : List ℕ) (done : ℕ) (now : List ℕ) → Type 0
-Pruning n kind before done now =
-    Changing (unlessDead n kind) noEdge (withEdges (parse before)) (parse before .edges) before done now
+abbrev pub Pruning : (parent kind : ℕ) (before now : List ℕ) (done : ℕ) → Type 0
+Pruning n kind before now done = Pass ofEdges (prune n kind (parse before .edges)) before now done
 
-pub prune-next : (n kind : ℕ) {before now after : List ℕ} {done : ℕ} → Pruning n kind before done now
-    → done < length (parse before .edges)
-    → Becomes now after (putEdge (parse now) (done + 1) (unlessDead n kind (edgeAt (parse now) (done + 1))))
-    → Pruning n kind before (done + 1) after
-unfolding putEdge edgeAt
-prune-next n kind c inside turn = change-next _ _ _ _ _ c inside (rw (c .sofar .parsed) at turn)
+module _ (n kind : ℕ) {before : List ℕ} where
+  pub prune-start : Formed before → Pruning n kind before before 0
+  prune-start f = pass-start ofEdges _ f (length-map (parse before .edges) (unlessDead n kind))
+
+  pub prune-next : {now after : List ℕ} {done : ℕ} → Pruning n kind before now done
+      → done < length (parse before .edges)
+      → Becomes now after
+      (putEdge (parse now) (done + 1) (unlessDead n kind (edgeAt (parse now) (done + 1))))
+      → Pruning n kind before after (done + 1)
+  unfolding putEdge edgeAt
+  prune-next {done = done} c inside turn =
+      pass-next ofEdges c (unlessDead n kind) inside
+      (at-map (unlessDead n kind) (parse before .edges) (suc done) noEdge (go (dead n kind noEdge))) turn
+    where
+      go : (b : Bool) → (if b then noEdge else noEdge) ≡ noEdge
+      go true = refl
+      go false = refl
 
 -- ## The counter
 

@@ -9,6 +9,7 @@ use store::image::get_shape;
 use store::image::lowest_free_edge;
 use store::image::put_edge;
 use store::image::put_shape;
+use store::rows::one_if;
 ghost use mathlib.Core.Path.{_≡_};
 ghost use mathlib.Core.Bool.{_&&_};
 ghost use lib.Dec.{eqb};
@@ -145,9 +146,7 @@ pub fn dead_edges(image: &[u32], parent: u32, kind: u32) -> u32
     let mut found = 0;
     let mut seen = 0;
     while seen < count {
-        if is_dead(get_edge(image, seen + 1), parent, kind) {
-            found += 1;
-        }
+        found += one_if(is_dead(get_edge(image, seen + 1), parent, kind));
         seen += 1;
     }
     found

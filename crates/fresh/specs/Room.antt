@@ -25,7 +25,8 @@ use Rattle.rules.specs.Placing.{Places}
 use Rattle.rules.specs.Steps.{fresh}
 use Rattle.rules.specs.Shapes.{tableOf}
 use Rattle.theorems.specs.Taken.{place-passed}
-use Rattle.theorems.specs.Facts.{Used, Sound, used-table, used-table-inside}
+use Rattle.rules.specs.InUse.{used-table-inside}
+use Rattle.theorems.specs.Facts.{Used, Sound, used-table}
 use Rattle.theorems.specs.Grow.{free-unused}
 use Rattle.property_table.specs.Slotted.{good-slotted}
 use Rattle.property_table.specs.Copies.{Apart}

@@ -5,23 +5,22 @@ use mathlib.Core.List.{List, [], _∷_}
 use mathlib.Core.Logic.{inl, inr, _≢_}
 use mathlib.Core.Option.{Option, none, some}
 use mathlib.Core.Path.{_≡_, refl, sym, ap, _∙_}
-use Prim.Native.Nat.{ℕ, suc, _+_, _-_, _≤_, _<_}
+use Prim.Native.Nat.{ℕ, suc, _+_, _-_, _≤_}
 use native.Mathlib.Nat.{add-zero, zero-add}
 use native.Mathlib.Numerals.{add-one}
 use native.Mathlib.Omega.{arith}
 use borrow.Author.Tests.{eqb-true, ne-eqb}
 use lib.Dec.{eqb}
-use lib.ListN.{length, getD, drop, length-drop, length-map}
+use lib.ListN.{length, drop, length-drop, length-map}
 use Rattle.slot.specs.If.{if_then_else_}
 use Rattle.store.specs.Lists.{first}
 use Rattle.store.specs.Model.{Model, shapeAt}
 use Rattle.store.specs.ListLaws.{Decided, either, length-keep}
 use Rattle.store.specs.declared.Shape.{Shape}
 use Rattle.store.specs.declared.Edge.{Edge}
-use Rattle.rules.specs.declared.StepRecord.{StepRecord}
 use Rattle.rules.specs.Placing.{stepIn}
 use Rattle.rules.specs.Steps.{Step, edgeOf, edgeKind, alike, dead, counter}
-use Rattle.steps.specs.Records.{noStep, records, stepsIn, steps-from}
+use Rattle.steps.specs.Records.{records, stepsIn}
 use Rattle.forward_transition.specs.Transitions.{transitionOf}
 use Rattle.forward_transition.specs.declared.Transition.{Transition}
 use Rattle.forward_transition.specs.declared.Transition.the-variants.{Live, Dead, Absent}
@@ -90,12 +89,6 @@ few-given m n (t ∷ ts) = go (isEdge (edgeFor m n t) || wraps m n (edgeKind t))
     go : (b : Bool) → (if b then deadEdges m n (edgeKind t) else 0) ≤ length (m .edges)
     go true = length-keep (dead n (edgeKind t)) (m .edges)
     go false = omega arith
-
--- ## A step was read
-
-pub next-step : (ws : List ℕ) (i : ℕ) {t : StepRecord} → i < length (records ws) → t ≡ getD (records ws) i noStep
-    → drop i (stepsIn ws) ≡ stepIn t ∷ drop (suc i) (stepsIn ws)
-next-step ws i inside read = rw read (steps-from ws i inside)
 
 -- ## Along live edges
 

@@ -46,7 +46,7 @@ unheld-after (t ∷ ts) m sound n legal fresh y e =
     let next = made-fresh m sound n t ts legal (fresh-new m n fresh t) z (b .gave) in
     unheld-after ts (z .0) (took .keeps .isSound) (z .1) (legal .1 z (b .gave)) next y (b .below)
 
-pub held-unchanged : (ts : List Step) (m : Model) → Sound m → (n : ℕ) → LegalSteps ts m n
+held-unchanged : (ts : List Step) (m : Model) → Sound m → (n : ℕ) → LegalSteps ts m n
     → (y : Placed) → steps ts m n ≡ ok y → holdsAt y ≢ 0 → y .0 ≡ m
 unfolding steps
 held-unchanged [] m sound n legal y e held = ap (λ (z : Placed). z .0) (sym (same-given e))

@@ -13,7 +13,8 @@ use Rattle.store.specs.PlaceLaws.{FirstOrNone, first-or-none, first-found, firs
 use Rattle.store.specs.ListLaws.{Decided, either}
 use Rattle.rules.specs.Shapes.{shared}
 use Rattle.rules.specs.Steps.{Step, edgeOf, alike, steps}
-use Rattle.theorems.specs.Facts.{Used, Sound, shared-used}
+use Rattle.rules.specs.InUse.{shared-used}
+use Rattle.theorems.specs.Facts.{Used, Sound}
 use Rattle.theorems.specs.TestsSay.{alike-is}
 use Rattle.theorems.specs.Stepped.{edge-in-use}
 use Rattle.plan.specs.Plan.{edgeFor, childOf, follow}
@@ -34,7 +35,7 @@ live-shared m sound n isShared t live = go (first-or-none (alike (edgeOf n t 0))
         rw its (sound .edges (suc k) used .child (rw its at live) .isShared)
     go (inr fails) = absurd (live (rw (first-none (alike (edgeOf n t 0)) noEdge (m .edges) fails)))
 
-pub followed-shared : (ts : List Step) (m : Model) → Sound m → (n : ℕ) → shared (shapeAt m n) ≡ true
+followed-shared : (ts : List Step) (m : Model) → Sound m → (n : ℕ) → shared (shapeAt m n) ≡ true
     → shared (shapeAt m (follow ts m n .place)) ≡ true
 followed-shared [] m sound n isShared = isShared
 followed-shared (t ∷ ts) m sound n isShared = go (either (eqb c 0)) (followed-shared ts m sound c)
@@ -53,7 +54,7 @@ pub followed-used : (ts : List Step) (m : Model) → Sound m → (n : ℕ) → s
 followed-used ts m sound n isShared =
     shared-used (shapeAt m (follow ts m n .place)) (followed-shared ts m sound n isShared)
 
-pub steps-left : (ts : List Step) (m : Model) (n : ℕ)
+steps-left : (ts : List Step) (m : Model) (n : ℕ)
     → let w = follow ts m n in steps ts m n ≡ steps (drop (w .found) ts) m (w .place)
 unfolding steps
 steps-left [] m n = refl
@@ -69,7 +70,7 @@ steps-left (t ∷ ts) m n = go (either (eqb c 0)) (steps-left ts m c)
     go (inl new) rest = rw new
     go (inr live) rest = rw (live, live-step m n t live) rest
 
-pub legal-left : (ts : List Step) (m : Model) (n : ℕ) → LegalSteps ts m n
+legal-left : (ts : List Step) (m : Model) (n : ℕ) → LegalSteps ts m n
     → let w = follow ts m n in LegalSteps (drop (w .found) ts) m (w .place)
 legal-left [] m n legal = tt
 legal-left (t ∷ ts) m n legal = go (either (eqb c 0)) (legal-left ts m c)

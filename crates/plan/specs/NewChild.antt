@@ -25,7 +25,8 @@ use Rattle.rules.specs.Shapes.{has, appended, configured, tableOf, entries}
 use Rattle.rules.specs.Refusals.{refuse}
 use Rattle.rules.specs.Steps.{Step, insert, configure, prototype, added, edgeOf, Placed, copyTo, childTable}
 use Rattle.rules.specs.Steps.{childShape, grow}
-use Rattle.theorems.specs.Facts.{Used, Sound, shared-used, used-place, table-inside, keys-fit}
+use Rattle.rules.specs.InUse.{shared-used}
+use Rattle.theorems.specs.Facts.{Used, Sound, used-place, table-inside, keys-fit}
 use Rattle.theorems.specs.Entries.{length-appended, length-configured}
 use Rattle.theorems.specs.Taken.{FreePlace}
 use Rattle.theorems.specs.Child.{Legal, withTables}

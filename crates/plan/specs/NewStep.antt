@@ -21,7 +21,8 @@ use Rattle.store.specs.declared.Edge.{Edge}
 use Rattle.rules.specs.Shapes.{withCounters}
 use Rattle.rules.specs.Steps.{Step, edgeOf, edgeKind, alike, prune, counter, setCounter, withEdges, pruned}
 use Rattle.rules.specs.Steps.{counted, make, along, step}
-use Rattle.theorems.specs.Facts.{Used, Sound, shared-used, used-place, used-place-inside}
+use Rattle.rules.specs.InUse.{shared-used}
+use Rattle.theorems.specs.Facts.{Used, Sound, used-place, used-place-inside}
 use Rattle.theorems.specs.Frame.{kept-used}
 use Rattle.theorems.specs.Prunes.{pruned-keeps, counted-keeps}
 use Rattle.theorems.specs.Child.{Legal}

@@ -125,10 +125,10 @@ limited-agrees N (m, n) r e = rw (e .transitions) (go (eqb N 1024))
 -- ## The theorem
 
 module _ (m : Model) (sound : Sound m) (n : ℕ) (ts : List Step) (legal : LegalSteps ts m n) where
-  pub plan-agrees : Agree (Ended (shapeAt m n .transitions + length ts)) (steps ts m n) (plan m n ts)
+  plan-agrees : Agree (Ended (shapeAt m n .transitions + length ts)) (steps ts m n) (plan m n ts)
   plan-agrees = plan-ends m sound (shapeAt m n .transitions + length ts) ts n legal refl
 
-  pub limited-plan-agrees :
+  limited-plan-agrees :
       Agree (λ (y : Placed) (r : Room). Unit {0}) (steps ts m n >>= limited) (planLimited m n ts)
   unfolding planLimited
   limited-plan-agrees =

@@ -1,19 +1,19 @@
--- The scan for a key: what it answers, what a loop knows at each turn, and what the answer says.
+-- The scan for a key: what it answers, and what the answer says.
 -- Assumes nothing.
 use mathlib.Core.Bool.{Bool, true, false}
 use mathlib.Core.List.{List, [], _∷_}
-use mathlib.Core.Logic.{_≢_}
 use mathlib.Core.Option.{none, some}
-use mathlib.Core.Path.{_≡_, refl, sym, _∙_}
+use mathlib.Core.Path.{_≡_, refl, sym}
 use Prim.Native.Nat.{ℕ, suc, _+_, _≤_, _<_}
-use native.Mathlib.Numerals.{add-one}
 use native.Mathlib.Omega.{arith}
-use borrow.Author.Tests.{eqb-true, eq-eqb, ne-eqb}
-use lib.ListN.{length, getD, take, drop, drop-of-length-le}
-use lib.Seq.{drop-cons, getD-take, length-take-le}
+use borrow.Author.Tests.{eqb-true}
+use lib.ListN.{length, getD, take}
+use lib.Seq.{getD-take, length-take-le}
 use Rattle.slot.specs.If.{if_then_else_}
 use Rattle.slot.specs.declared.Slot.{Slot}
 use Rattle.store.specs.Model.{noEntry}
+use Rattle.store.specs.Scans.{Scan, scanOf}
+use lib.Dec.{eqb}
 use Rattle.store.specs.declared.Entry.{Entry}
 use Rattle.rules.specs.Shapes.{isKey, has, attributesIn}
 use Rattle.rules.specs.Sweep.{found}
@@ -30,34 +30,24 @@ abbrev pub lookedUp : (key n : ℕ) → List Entry → OptionalProperty
 lookedUp k n [] = Nothing
 lookedUp k n (e ∷ es) = if isKey k e then At (propertyOf n e) else lookedUp k (suc n) es
 
--- ## A loop that looks among the first n, at position i
+-- ## A scan of the first n
 
-pub record Looking (k n : ℕ) (es : List Entry) (i : ℕ) : Type 0 where
-  pub within : i ≤ n
-  pub rest : lookedUp k i (drop i (take n es)) ≡ lookedUp k 0 (take n es)
+abbrev pub lookScan : (key : ℕ) → List Entry → Scan OptionalProperty
+lookScan key =
+    scanOf noEntry (λ k es. lookedUp key k es) (λ k e es. isKey key e) (λ k e. At (propertyOf k e))
+    (λ k e es. refl)
 
-module _ {k n : ℕ} {es : List Entry} where
-  pub look : Looking k n es 0
-  look = record { within = omega arith; rest = refl }
+pub first-count : {n : ℕ} (es : List Entry) → n ≤ length es → n ≡ length (take n es)
+first-count {n} es inside = sym (length-take-le n es inside)
 
-  module _ {i : ℕ} (l : Looking k n es i) (inside : n ≤ length es) where
-    next : {e : Entry} → i < n → e ≡ getD es i noEntry → drop i (take n es) ≡ e ∷ drop (suc i) (take n es)
-    next h q =
-        let long = length-take-le n es inside in
-        drop-cons (take n es) i noEntry (omega arith) ∙ rw (getD-take n es i noEntry h, q)
+module _ (key : ℕ) {n : ℕ} (es : List Entry) {i : ℕ} (l : i < n) {e : Entry}
+    (read : e ≡ getD es i noEntry) where
+  pub key-tested : eqb (e .key) key ≡ lookScan key (take n es) .stops i
+  key-tested = rw (getD-take n es i noEntry l, read)
 
-    pub hit : {e : Entry} {s : Slot} → i < n → e ≡ getD es i noEntry → e .key ≡ k → s ≡ slotIn e
-        → At (record { position = record { 0 = i }; slot = s }) ≡ lookedUp k 0 (take n es)
-    hit {e} {s} h q t its = sym (rw (next h q, eq-eqb (e .key) k t, its)) ∙ l .rest
-
-    pub miss : {e : Entry} → i < n → e ≡ getD es i noEntry → e .key ≢ k → Looking k n es (i + 1)
-    miss {e} h q t =
-        record { within = omega arith; rest = sym (rw (next h q, ne-eqb (e .key) k t, add-one)) ∙ l .rest }
-
-    pub nowhere : n ≤ i → Nothing ≡ lookedUp k 0 (take n es)
-    nowhere h =
-        let long = length-take-le n es inside in
-        sym (rw (drop-of-length-le (take n es) {i = i} (omega arith))) ∙ l .rest
+  pub key-found : {s : Slot} → s ≡ slotIn e
+      → At (record { position = record { 0 = i }; slot = s }) ≡ lookScan key (take n es) .says i
+  key-found its = rw (getD-take n es i noEntry l, ← read, its)
 
 -- ## What the answer says
 

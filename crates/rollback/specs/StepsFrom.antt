@@ -1,22 +1,19 @@
 -- Steps that stand in lent words from a row on: one more goes in front, and a key is looked for.
 -- Assumes nothing.
-use mathlib.Core.Bool.{Bool, true, false, _||_}
+use mathlib.Core.Bool.{Bool, true, false}
 use mathlib.Core.List.{List, [], _∷_, map}
-use mathlib.Core.Logic.{_≢_}
 use mathlib.Core.Path.{_≡_, refl, sym, _∙_, ap}
 use Prim.Native.Nat.{ℕ, zero, suc, _+_, _-_, _≤_, _<_}
 use native.Mathlib.Nat.{not-suc-le-zero, le-of-suc-le-suc}
-use native.Mathlib.Numerals.{add-one}
 use native.Mathlib.Omega.{arith}
-use borrow.Author.Tests.{eq-eqb, ne-eqb}
 use lib.Dec.{eqb}
-use lib.ListN.{length, getD, set, drop, drop-of-length-le, length-set, length-map, length-drop}
+use lib.ListN.{length, getD, set, drop, length-set, length-map, length-drop, List·getD-map}
 use Rattle.slot.specs.If.{if_then_else_}
-use Rattle.store.specs.Lists.{any}
+use Rattle.store.specs.Scans.{Scan, anyScan}
 use Rattle.rules.specs.declared.StepRecord.{StepRecord}
 use Rattle.rules.specs.Placing.{stepIn}
 use Rattle.rules.specs.Steps.{Step, insert, configure, prototype, edgeLabel, sameKey}
-use Rattle.steps.specs.Records.{records, stepsIn, noStep, count-records, steps-from}
+use Rattle.steps.specs.Records.{records, stepsIn, noStep, count-records}
 
 -- From a row on the words are these steps.
 pub record StepsFrom (ws : List ℕ) (start : ℕ) (ts : List Step) : Type 0 where
@@ -55,13 +52,8 @@ step-pushed before {after} {start} t low inside written =
 
 -- ## A loop that looks for a key
 
--- The key is among the steps from row i on just when it is among those from `start` on.
-pub record Looking (ws : List ℕ) (start key i : ℕ) : Type 0 where
-  pub within : i ≤ length (records ws)
-  pub rest : any (sameKey key) (drop i (stepsIn ws)) ≡ any (sameKey key) (drop start (stepsIn ws))
-
-pub look : {ws : List ℕ} {start key : ℕ} → start ≤ length (records ws) → Looking ws start key start
-look inside = record { within = inside; rest = refl }
+abbrev pub keyScan : (key : ℕ) (ws : List ℕ) → Scan Bool
+keyScan key ws = anyScan (stepIn noStep) (sameKey key) (stepsIn ws)
 
 step-label : (t : StepRecord) → edgeLabel (stepIn t) ≡ t .label
 step-label t = go (eqb (t .kind) 0) (eqb (t .kind) 1)
@@ -73,20 +65,10 @@ step-label t = go (eqb (t .kind) 0) (eqb (t .kind) 1)
     go false true = refl
     go false false = refl
 
-module _ {ws : List ℕ} {start key i : ℕ} (l : Looking ws start key i) where
-  module _ (inside : i < length (records ws)) {t : StepRecord} (read : t ≡ getD (records ws) i noStep) where
-    here : (eqb (t .label) key || any (sameKey key) (drop (suc i) (stepsIn ws)))
-        ≡ any (sameKey key) (drop start (stepsIn ws))
-    here = rw (← step-label t, read) (sym (ap (any (sameKey key)) (steps-from ws i inside)) ∙ l .rest)
+module _ (ws : List ℕ) where
+  pub steps-many : {n : ℕ} → n ≡ length (records ws) → n ≡ length (stepsIn ws)
+  steps-many e = e ∙ sym (length-map (records ws) stepIn)
 
-    pub hit : t .label ≡ key → true ≡ any (sameKey key) (drop start (stepsIn ws))
-    hit same = rw (eq-eqb (t .label) key same) at here
-
-    pub miss : t .label ≢ key → Looking ws start key (i + 1)
-    miss differs =
-        record { within = omega arith; rest = rw add-one (rw (ne-eqb (t .label) key differs) at here) }
-
-  pub nowhere : length (records ws) ≤ i → false ≡ any (sameKey key) (drop start (stepsIn ws))
-  nowhere end =
-      let none = drop-of-length-le (stepsIn ws) {i = i} (rw length-map end) in
-      sym (ap (any (sameKey key)) none) ∙ l .rest
+  pub step-tested : (key i : ℕ) {t : StepRecord} → t ≡ getD (records ws) i noStep
+      → eqb (t .label) key ≡ keyScan key ws .stops i
+  step-tested key i {t} read = rw (List·getD-map stepIn (records ws) i noStep, ← read, step-label t)

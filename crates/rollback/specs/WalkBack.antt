@@ -15,12 +15,13 @@ use Rattle.store.specs.ListLaws.{Decided, either, any-append, last-append}
 use Rattle.store.specs.Image.{Place}
 use Rattle.store.specs.declared.Shape.{Shape}
 use Rattle.store.specs.declared.Entry.{Entry}
-use Rattle.rules.specs.Shapes.{entry, isKey, has, widths, tableOf}
+use Rattle.rules.specs.Shapes.{entry, isKey, has, widths}
 use Rattle.rules.specs.Steps.{Step, insert, configure, prototype, backward, chain, prototypeStep, lastOf}
 use Rattle.rules.specs.Steps.{inserts, remember, sameKey, yields, back, rollback}
 use Rattle.rules.specs.Trails.{madeBy}
 use Rattle.steps.specs.Records.{records, stepsIn}
-use Rattle.theorems.specs.Facts.{Sound, shared-used, used-place-inside, used-table-inside}
+use Rattle.rules.specs.InUse.{Tabled, shared-used, used-table-inside}
+use Rattle.theorems.specs.Facts.{Sound, used-place-inside}
 use Rattle.theorems.specs.Entries.{has-configured}
 use Rattle.theorems.specs.Made.{SharedAt, entriesAt, transitionsAt, Made, made, at-root}
 use Rattle.theorems.specs.Rollback.{rolled-back}
@@ -29,11 +30,6 @@ use Rattle.rollback.specs.declared.OptionalPrototype.{OptionalPrototype}
 use Rattle.rollback.specs.declared.OptionalPrototype.the-variants.{At, Nothing}
 
 -- ## One shape of the walk
-
--- The shape's table is a place, and has an entry for each key that the shape counts.
-pub record Tabled (m : Model) (s : Shape) : Type 0 where
-  pub table : Place (length (m .tables)) (s .table)
-  pub fits : s .properties ≤ length (tableOf m s)
 
 shared-tabled : (m : Model) → Sound m → (n : ℕ) → SharedAt m n → Tabled m (shapeAt m n)
 shared-tabled m sound n h =

@@ -25,7 +25,8 @@ ghost use Rattle.steps.specs.Records.{records, stepsIn};
 ghost use Rattle.theorems.specs.Facts.{Sound};
 ghost use Rattle.theorems.specs.Made.{SharedAt, entriesAt};
 ghost use Rattle.rollback.specs.StepsFrom.{StepsFrom};
-ghost use Rattle.rollback.specs.WalkBack.{Tabled, newestOf};
+ghost use Rattle.rules.specs.InUse.{Tabled};
+ghost use Rattle.rollback.specs.WalkBack.{newestOf};
 
 // The newest prototype step that the walk has passed.
 enum OptionalPrototype {

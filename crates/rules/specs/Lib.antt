@@ -4,6 +4,7 @@ pub mod Refusals
 pub mod Steps
 pub mod Placing
 pub mod Sound
+pub mod InUse
 pub mod Unique
 pub mod Sweep
 pub mod Calls

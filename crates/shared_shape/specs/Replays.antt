@@ -14,7 +14,8 @@ use Rattle.rules.specs.Numbers.{goodKey}
 use Rattle.rules.specs.Shapes.{has, attributesIn}
 use Rattle.rules.specs.Steps.{Step, insert, configure, Back, steps, step, rollback, removeShared}
 use Rattle.rules.specs.Steps.{changeShared}
-use Rattle.theorems.specs.Facts.{Sound, shared-used}
+use Rattle.rules.specs.InUse.{shared-used}
+use Rattle.theorems.specs.Facts.{Sound}
 use Rattle.theorems.specs.Child.{Legal}
 use Rattle.theorems.specs.Made.{SharedAt, entriesAt, transitionsAt}
 use Rattle.theorems.specs.Rollback.{RolledBack, rolled-back}

@@ -22,7 +22,8 @@ use Rattle.rules.specs.declared.StepRecord.{StepRecord}
 use Rattle.rules.specs.Placing.{stepIn, Passes, Places, placed}
 use Rattle.rules.specs.Settled.{same-given}
 use Rattle.steps.specs.Records.{records, stepsIn, count-records}
-use Rattle.theorems.specs.Facts.{Used, Sound, shared-used, used-place-inside}
+use Rattle.rules.specs.InUse.{shared-used}
+use Rattle.theorems.specs.Facts.{Used, Sound, used-place-inside}
 use Rattle.theorems.specs.Taken.{Bound, bind-passed}
 use Rattle.theorems.specs.Child.{Legal}
 use Rattle.theorems.specs.Stepped.{step-took}

@@ -27,7 +27,8 @@ use Rattle.rules.specs.Settled.{guard-passed}
 use Rattle.rules.specs.Placing.{Passes, Places, places, placed}
 use Rattle.rules.specs.Steps.{Step, insert, configure, prototype, edgeOf, edgeAttributes, added, Placed}
 use Rattle.rules.specs.Steps.{childTable, childShape, grow}
-use Rattle.theorems.specs.Facts.{Sound, shared-used, used-place-inside, used-table}
+use Rattle.rules.specs.InUse.{shared-used}
+use Rattle.theorems.specs.Facts.{Sound, used-place-inside, used-table}
 use Rattle.theorems.specs.Taken.{bind-passed, place-passed, place-lowest}
 use Rattle.theorems.specs.Child.{Legal}
 use Rattle.child_table.specs.Parents.{Parent}

@@ -4,7 +4,7 @@ use mathlib.Core.List.{List, _∷_}
 use mathlib.Core.Path.{_≡_, refl, sym, _∙_}
 use Prim.Native.Nat.{ℕ, suc, _+_, _≤_, _<_}
 use native.Mathlib.Numerals.{add-one}
-use lib.ListN.{length, drop, getD, length-map, drop-of-length-le}
+use lib.ListN.{length, drop, getD}
 use Rattle.store.specs.Layout.{parse}
 use Rattle.store.specs.Image.{Formed, Becomes, unchanged, and-then}
 use Rattle.rules.specs.declared.Placement.the-variants.{At}
@@ -15,7 +15,7 @@ use Rattle.theorems.specs.Facts.{Sound}
 use Rattle.theorems.specs.Taken.{bind-passed}
 use Rattle.theorems.specs.Stepped.{step-took}
 use Rattle.plan.specs.PlanRight.{LegalSteps}
-use Rattle.steps.specs.Records.{records, noStep, stepsIn, steps-from}
+use Rattle.steps.specs.Records.{records, noStep, stepsIn, next-step, steps-end}
 use Rattle.shared_step.specs.Growing.{Ready}
 
 -- A loop over the steps in ws, at the i-th, has reached the shape at p.
@@ -35,13 +35,12 @@ module _ {before : List ℕ} {n : ℕ} {ws : List ℕ} {start : ℕ} where
         → Places before now (steps (drop start (stepsIn ws)) (parse before) n) (At p)
     unfolding steps
     walk-end past =
-        let none = drop-of-length-le (stepsIn ws) {i = i} (rw length-map past) in
-        places (sym (rw none at (w .rest))) (w .so-far) refl
+        places (sym (rw (steps-end ws past) at (w .rest))) (w .so-far) refl
 
     module _ (passes : Passes (steps (drop start (stepsIn ws)) (parse before) n))
         (more : i < length (records ws)) {t : StepRecord} (read : t ≡ getD (records ws) i noStep) where
       this-and-more : drop i (stepsIn ws) ≡ stepIn t ∷ drop (suc i) (stepsIn ws)
-      this-and-more = rw read (steps-from ws i more)
+      this-and-more = next-step ws i more read
 
       all-legal : LegalSteps (stepIn t ∷ drop (suc i) (stepsIn ws)) (parse now) p
       all-legal = rw this-and-more at (w .legal)

@@ -4,19 +4,17 @@ use mathlib.Core.Path.{_≡_, refl, _∙_}
 use mathlib.Core.Bool.{Bool, true, false, _&&_, _||_, not, and-assoc, and-true}
 use mathlib.Core.List.{[], _∷_}
 use Prim.Native.Nat.{ℕ, _≤_}
-use borrow.Author.Tests.{ne-eqb, leb-true, not-true}
-use lib.Dec.{eqb, leb}
+use borrow.Author.Tests.{ne-eqb}
+use lib.Dec.{eqb}
 use lib.ListN.{length, drop}
 use Rattle.store.specs.Lists.{zeros}
-use Rattle.store.specs.Model.{Model, free, noShape, freeShape, freeTable, shapeAt, tableAt, edgeAt}
-use Rattle.store.specs.Image.{Place}
-use Rattle.store.specs.PlaceLaws.{at-inside}
-use Rattle.store.specs.ListLaws.{and-both, or-then, every-numbered, eqb-sym}
+use Rattle.store.specs.Model.{Model, freeShape, freeTable, shapeAt, tableAt, edgeAt}
+use Rattle.store.specs.ListLaws.{eqb-sym}
 use Rattle.store.specs.declared.Shape.{Shape}
 use Rattle.store.specs.declared.Edge.{Edge}
 use Rattle.rules.specs.Shapes.{isRoot, tableOf}
-use Rattle.rules.specs.Steps.{alike}
-use Rattle.rules.specs.Sound.{eachShape, inRange}
+use Rattle.rules.specs.Sound.{inRange}
+use Rattle.rules.specs.InUse.{shape-ranges}
 use Rattle.sound_shapes.specs.Tests.{shapeZeroIfFree, rootZero, ownFields, goodShape}
 use Rattle.sound_shapes.specs.Tests.{differs, passes}
 use Rattle.sound_shapes.specs.declared.Sentence.the-variants.{EdgesDiffer}
@@ -46,29 +44,10 @@ pub no-table-zero : (m : Model) (t : ℕ) → t ≡ 0 → false ≡ not (freeTab
 unfolding tableAt
 no-table-zero m t e = rw e
 
--- A table in use stands at a place.
-pub table-place : (m : Model) (t : ℕ) → not (freeTable (tableAt m t)) ≡ true → Place (length (m .tables)) t
-unfolding tableAt
-table-place m t e =
-    let inside = at-inside freeTable (m .tables) t free refl (not-true (freeTable (tableAt m t)) e) in
-    record { low = inside .0; high = inside .1 }
-
 module _ (m : Model) (n : ℕ) {s : Shape} (read : s ≡ shapeAt m n) where
-  -- A shape in use passes what is asked of each.
-  pub shape-passes : (test : Shape → Bool) → eachShape m (λ k x. test x) ≡ true → (s .state ≡ 0 → ⊥) → test s ≡ true
-  unfolding shapeAt
-  shape-passes test e inUse =
-      let its = every-numbered noShape (λ p. freeShape (p .1) || test (p .1)) (λ k. refl) (m .shapes) e n in
-      or-then (freeShape s) (rw (← read) at its) (ne-eqb (s .state) 0 inUse)
-
   pub table-in-range : inRange m ≡ true → (s .state ≡ 0 → ⊥) → s .table ≤ length (m .tables)
-  unfolding inRange
   table-in-range e inUse =
-      let S = length (m .shapes) in
-      let T = length (m .tables) in
-      let front : Shape → Bool = λ x. leb (x .state) 2 && leb (x .step) 2 && leb (x .previous) S in
-      let ranges = shape-passes (λ x. front x && leb (x .table) T) (and-both _ e .0) inUse in
-      leb-true (s .table) T (and-both (front s) ranges .1)
+      rw read (shape-ranges m e n (rw (← read) (ne-eqb (s .state) 0 inUse)) .table)
 
   pub free-is-good : s .state ≡ 0 → true ≡ goodShape m (shapeAt m n)
   free-is-good e = rw (← read, e)
@@ -97,11 +76,3 @@ module _ (m : Model) (n : ℕ) {e : Edge} (read : e ≡ edgeAt m n) where
       → r ≡ passes m EdgesDiffer n
   unfolding passes
   later-differ q answer = rw (← read, ne-eqb (e .parent) 0 q) answer
-
--- An edge compared with another.
-module _ (e : Edge) {f g : Edge} {same : Bool} (read : f ≡ g) (compared : same ≡ alike e f) where
-  pub alike-fails : same ≡ true → not (alike e g) ≡ false
-  alike-fails q = rw (← read, ← compared, q)
-
-  pub unlike-passes : same ≡ false → not (alike e g) ≡ true
-  unlike-passes q = rw (← read, ← compared, q)

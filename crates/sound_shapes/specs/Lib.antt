@@ -1,4 +1,4 @@
-pub mod Places
+pub mod Keys
 pub mod Tests
 pub mod Sentences
 pub mod Answers

@@ -1,16 +1,18 @@
 -- The sentences of soundness about a shape's and an edge's own fields, each as a test of one record.
 -- Assumes nothing.
-use mathlib.Core.Path.{_≡_}
-use mathlib.Core.Bool.{Bool, true, _&&_, _||_, not}
+use mathlib.Core.Path.{_≡_, refl}
+use mathlib.Core.Bool.{Bool, true, false, _&&_, _||_, not}
 use mathlib.Core.List.{List, [], _∷_, map}
-use Prim.Native.Nat.{ℕ, _≤_}
+use Prim.Native.Nat.{ℕ, _+_}
+use native.Mathlib.Numerals.{add-one}
 use lib.Dec.{eqb, ltb, leb}
 use lib.ListN.{length, drop}
 use Rattle.slot.specs.If.{if_then_else_}
 use Rattle.slot.specs.Attributes.{goodAttributes, sameWidth}
-use Rattle.store.specs.Lists.{every, all, zeros}
-use Rattle.store.specs.Model.{Model, freeShape, freeTable, freeEdge, shapeAt, tableAt, edgeAt}
-use Rattle.store.specs.Image.{Place}
+use Rattle.store.specs.Lists.{every, any, all, zeros}
+use Rattle.store.specs.Scans.{Scan, scanOf, everyScan, and-if, shape-next, edge-next}
+use Rattle.store.specs.Model.{Model, noShape, noEdge, freeShape, freeTable, freeEdge}
+use Rattle.store.specs.Model.{shapeAt, tableAt, edgeAt}
 use Rattle.store.specs.Layout.{shapeWords, edgeWords}
 use Rattle.store.specs.declared.Shape.{Shape}
 use Rattle.store.specs.declared.Entry.{Entry}
@@ -18,6 +20,8 @@ use Rattle.store.specs.declared.Edge.{Edge}
 use Rattle.rules.specs.Shapes.{has, attributesIn, unique, isRoot, shared, tableOf, entries}
 use Rattle.rules.specs.Steps.{alike, edgeKind}
 use Rattle.rules.specs.Sound.{stepOf, goodLabel, goodChild, inRange, tableInUse, tablesGood, countsFit}
+use Rattle.rules.specs.Sound.{noTwoAlike}
+use Rattle.rules.specs.InUse.{Tabled}
 use Rattle.sound_shapes.specs.declared.Sentence.{Sentence}
 use Rattle.sound_shapes.specs.declared.Sentence.the-variants.{ShapesInRange, EdgesInRange}
 use Rattle.sound_shapes.specs.declared.Sentence.the-variants.{FreeShapesZero, FreeEdgesZero}
@@ -74,7 +78,7 @@ abbrev pub goodShape : Model → Shape → Bool
 goodShape m s = freeShape s || all (map (λ test. test s) (shapeTests m))
 
 abbrev pub differs : List Edge → Edge → Bool
-differs es e = every (λ f. not (alike e f)) es
+differs es e = not (any (alike e) es)
 
 -- The attributes are of equal width where the key is held.
 abbrev pub widthFits : (key attributes : ℕ) → List Entry → Bool
@@ -83,10 +87,9 @@ widthFits k a es = not (has k es) || sameWidth (attributesIn k es) a
 abbrev pub leadsTo : Shape → Edge → Bool
 leadsTo s e = shared s && eqb (s .previous) (e .parent) && eqb (edgeKind (stepOf (s .step) e)) (e .kind)
 
--- A shape's entries lie within its table, and the table's attributes are good.
+-- A shape's entries can be read, and its table's attributes are good.
 pub record Keyed (m : Model) (s : Shape) : Type 0 where
-  pub place : Place (length (m .tables)) (s .table)
-  pub counted : s .properties ≤ length (tableOf m s)
+  pub tabled : Tabled m s
   pub good : every (λ e. goodAttributes (e .attributes)) (tableOf m s) ≡ true
 
 abbrev pub goodEdge : Model → Edge → Bool
@@ -94,16 +97,19 @@ goodEdge m e =
     let p = shapeAt m (e .parent) in
     freeEdge e || (shared p && goodLabel (entries m p) e && goodChild (shapeAt m (e .child)) e)
 
--- ## The record at a place
+-- ## Every record
 
-abbrev pub countOf : Model → Sentence → ℕ
-countOf m ShapesInRange = length (m .shapes)
-countOf m EdgesInRange = length (m .edges)
-countOf m FreeShapesZero = length (m .shapes)
-countOf m FreeEdgesZero = length (m .edges)
-countOf m ShapesGood = length (m .shapes)
-countOf m EdgesDiffer = length (m .edges)
-countOf m EdgesGood = length (m .edges)
+-- What a sentence asks of each record after the other.
+abbrev pub asked : Model → Sentence → Scan Bool
+asked m ShapesInRange = everyScan noShape (shapeInRange (length (m .shapes)) (length (m .tables))) (m .shapes)
+asked m EdgesInRange = everyScan noEdge (edgeInRange (length (m .shapes))) (m .edges)
+asked m FreeShapesZero = everyScan noShape shapeZeroIfFree (m .shapes)
+asked m FreeEdgesZero = everyScan noEdge edgeZeroIfFree (m .edges)
+asked m ShapesGood = everyScan noShape (goodShape m) (m .shapes)
+asked m EdgesDiffer =
+    scanOf noEdge (λ k es. noTwoAlike es) (λ k e es. not (freeEdge e || differs es e)) (λ k e. false)
+    (λ k e es. and-if (freeEdge e || differs es e) (noTwoAlike es)) (m .edges)
+asked m EdgesGood = everyScan noEdge (goodEdge m) (m .edges)
 
 -- What a sentence takes for granted.
 pub record TablesKnown (m : Model) : Type 0 where
@@ -121,6 +127,7 @@ Granted m ShapesGood = inRange m ≡ true
 Granted m EdgesDiffer = Unit {0}
 Granted m EdgesGood = TablesKnown m
 
+-- The record at a place.
 unfoldable pub passes : Model → Sentence → (place : ℕ) → Bool
 passes m ShapesInRange n = shapeInRange (length (m .shapes)) (length (m .tables)) (shapeAt m n)
 passes m EdgesInRange n = edgeInRange (length (m .shapes)) (edgeAt m n)
@@ -129,3 +136,25 @@ passes m FreeEdgesZero n = edgeZeroIfFree (edgeAt m n)
 passes m ShapesGood n = goodShape m (shapeAt m n)
 passes m EdgesDiffer n = freeEdge (edgeAt m n) || differs (drop n (m .edges)) (edgeAt m n)
 passes m EdgesGood n = goodEdge m (edgeAt m n)
+
+pub passes-here : (m : Model) (sentence : Sentence) (k : ℕ) {b : Bool} → b ≡ passes m sentence (k + 1)
+    → not b ≡ asked m sentence .stops k
+unfolding passes
+passes-here m ShapesInRange k e = rw (e, shape-next m k)
+passes-here m EdgesInRange k e = rw (e, edge-next m k)
+passes-here m FreeShapesZero k e = rw (e, shape-next m k)
+passes-here m FreeEdgesZero k e = rw (e, edge-next m k)
+passes-here m ShapesGood k e = rw (e, shape-next m k)
+passes-here m EdgesDiffer k e = rw (e, edge-next m k, add-one)
+passes-here m EdgesGood k e = rw (e, edge-next m k)
+
+-- The first that fails decides, and else all pass.
+pub decided : (m : Model) (sentence : Sentence) (k : ℕ)
+    → (false ≡ asked m sentence .says k) × (true ≡ asked m sentence .otherwise)
+decided m ShapesInRange k = (refl, refl)
+decided m EdgesInRange k = (refl, refl)
+decided m FreeShapesZero k = (refl, refl)
+decided m FreeEdgesZero k = (refl, refl)
+decided m ShapesGood k = (refl, refl)
+decided m EdgesDiffer k = (refl, refl)
+decided m EdgesGood k = (refl, refl)

@@ -1,4 +1,6 @@
 // What soundness asks of an edge's parent, of its key or prototype, and of its child.
+use crate::keys::place_of_key;
+use rules::good_key;
 use slot::KeyPosition;
 use slot::SlotAttributes;
 use store::Edge;
@@ -11,37 +13,12 @@ ghost use Prim.Native.Nat.{_≤_};
 ghost use lib.Dec.{leb};
 ghost use lib.ListN.{length};
 ghost use Rattle.slot.specs.If.{if_then_else_};
-ghost use Rattle.store.specs.Lists.{lowest};
 ghost use Rattle.store.specs.Model.{shapeAt, edgeAt};
 ghost use Rattle.store.specs.Layout.{parse};
 ghost use Rattle.store.specs.Image.{Formed, Place};
-ghost use Rattle.rules.specs.Numbers.{goodKey};
-ghost use Rattle.rules.specs.Shapes.{isKey, entries};
+ghost use Rattle.rules.specs.Shapes.{entries};
 ghost use Rattle.rules.specs.Sound.{goodLabel, goodChild};
 ghost use Rattle.sound_shapes.specs.Tests.{TablesKnown, Keyed, widthFits, leadsTo, goodEdge};
-
-fn is_good_key(key: u32) -> bool
-    ensures { λ r. ⌜ r ≡ goodKey key ⌝ }
-{
-    key / 1073741824 < 3
-}
-
-// The place of a key among a shape's entries, 0 where it is absent.
-fn place_of_key(image: &[u32], s: Shape, key: u32) -> u32
-    requires { ⌜ Formed (now image) ⌝ }
-    requires { ⌜ Keyed (parse (now image)) s ⌝ }
-    ensures { λ r. ⌜ r ≡ lowest (isKey key) 1 (entries (parse (now (image .entry))) s) ⌝ }
-{
-    let mut done = 0;
-    while done < s.properties {
-        let e = get_entry(image, s.table, KeyPosition(done));
-        if e.key == key {
-            return done + 1;
-        }
-        done += 1;
-    }
-    0
-}
 
 // The attributes are of equal width where the shape holds the key.
 fn width_fits(image: &[u32], s: Shape, key: u32, attributes: u32) -> bool
@@ -71,7 +48,7 @@ fn label_is_good(image: &[u32], parent: Shape, e: Edge) -> bool
     if e.attributes > 31 {
         return false;
     }
-    is_good_key(e.label) & width_fits(image, parent, e.label, e.attributes)
+    good_key(e.label) & width_fits(image, parent, e.label, e.attributes)
 }
 
 // The kind of the edges that a step kind has.

@@ -14,17 +14,16 @@ use store::image::table_count;
 ghost use mathlib.Core.Path.{_≡_};
 ghost use mathlib.Core.Bool.{true};
 ghost use mathlib.Core.List.{[], _∷_};
-ghost use lib.ListN.{length};
 ghost use Rattle.store.specs.Lists.{all};
 ghost use Rattle.store.specs.Layout.{parse};
 ghost use Rattle.store.specs.Image.{Formed, Place};
 ghost use Rattle.rules.specs.Sound.{inRange, tableInUse, freeZero, countsFit, rootsZero};
 ghost use Rattle.rules.specs.Sound.{edgesDiffer};
 ghost use Rattle.rules.specs.Sound.{edgesGood, transitionsLimited, holdsLimited, uniquesZero};
-ghost use Rattle.sound_shapes.specs.Places.{places};
-ghost use Rattle.sound_shapes.specs.Tests.{TablesKnown, countOf, Granted, passes};
+ghost use Rattle.sound_shapes.specs.Tests.{TablesKnown, asked, Granted, passes};
 
 mod edges;
+pub mod keys;
 mod labels;
 mod shapes;
 mod zeros;
@@ -44,7 +43,7 @@ pub enum Sentence {
 fn record_passes(image: &[u32], sentence: Sentence, n: u32) -> bool
     requires { ⌜ Formed (now image) ⌝ }
     requires { ⌜ Granted (parse (now image)) sentence ⌝ }
-    requires { ⌜ Place (countOf (parse (now image)) sentence) n ⌝ }
+    requires { ⌜ Place (asked (parse (now image)) sentence .many) n ⌝ }
     ensures { λ r. ⌜ r ≡ passes (parse (now (image .entry))) sentence n ⌝ }
 {
     match sentence {
@@ -63,8 +62,8 @@ fn record_passes(image: &[u32], sentence: Sentence, n: u32) -> bool
 fn every_record_passes(image: &[u32], sentence: Sentence, count: u32) -> bool
     requires { ⌜ Formed (now image) ⌝ }
     requires { ⌜ Granted (parse (now image)) sentence ⌝ }
-    requires { ⌜ count ≡ countOf (parse (now image)) sentence ⌝ }
-    ensures { λ r. ⌜ r ≡ places (passes (parse (now (image .entry))) sentence) 0 count ⌝ }
+    requires { ⌜ count ≡ asked (parse (now image)) sentence .many ⌝ }
+    ensures { λ r. ⌜ r ≡ asked (parse (now (image .entry))) sentence .from 0 ⌝ }
 {
     let mut done = 0;
     while done < count {

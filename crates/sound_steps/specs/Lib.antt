@@ -1,3 +1,2 @@
-pub mod Scan
 pub mod Links
 pub mod StepLaws

@@ -7,20 +7,22 @@ use mathlib.Core.Logic.{_⊎_, inl, inr, _≢_}
 use Prim.Native.Nat.{ℕ, zero, suc, _+_, _≤_, _<_}
 use native.Mathlib.Numerals.{add-one}
 use native.Mathlib.Omega.{arith}
-use borrow.Author.Tests.{eqb-true, eqb-false, ne-eqb, eq-eqb, ltb-true, lt-ltb, leb-true, not-true}
-use lib.Dec.{eqb, ltb, leb}
+use borrow.Author.Tests.{eqb-false, ne-eqb, eq-eqb, ltb-true, lt-ltb, not-true}
+use lib.Dec.{eqb, ltb}
 use lib.ListN.{length, getD, set, take, replicate, length-set, length-replicate}
 use lib.Seq.{take-suc, take-all, getD-set-same, getD-set-other}
 use Rattle.slot.specs.If.{if_then_else_}
 use Rattle.store.specs.Lists.{at, numbered, keep, every, onlyOne}
-use Rattle.store.specs.ListLaws.{and-both, or-then, keep-append, every-numbered, not-both}
+use Rattle.store.specs.ListLaws.{and-both, keep-append, not-both}
 use Rattle.store.specs.PlaceLaws.{same?}
+use Rattle.store.specs.Scans.{Scanning, placesScan, shape-next}
 use Rattle.store.specs.Model.{Model, freeShape, noShape, noEdge, shapeAt}
 use Rattle.store.specs.Image.{Place}
 use Rattle.store.specs.declared.Shape.{Shape}
 use Rattle.store.specs.declared.Edge.{Edge}
 use Rattle.rules.specs.Shapes.{shared, isChild}
-use Rattle.rules.specs.Sound.{eachShape, inRange, edgesTo, childrenLinked}
+use Rattle.rules.specs.Sound.{inRange, edgesTo, childrenLinked}
+use Rattle.rules.specs.InUse.{shared-used, shape-ranges}
 
 -- ## The marks
 
@@ -165,9 +167,6 @@ childTest s b = freeShape s || (not (isChild s) || b)
 pub no-child : {s its : Shape} (b : Bool) → s ≡ its → isChild s ≡ false → true ≡ childTest its b
 no-child {s} b its e = rw (← its, e) (sym (or-true (freeShape s)))
 
-pub shared-used : (s : Shape) → shared s ≡ true → freeShape s ≡ false
-shared-used s e = ne-eqb (s .state) 0 (λ z. omega (arith, eqb-true (s .state) 1 e))
-
 pub a-child : (s : Shape) (b : Bool) → isChild s ≡ true → b ≡ childTest s b
 a-child s b e = rw (shared-used s (and-both (shared s) e .0), e)
 
@@ -191,36 +190,26 @@ pub linked-child : (m : Model) (n : ℕ) {s p : Shape} {after before : ℕ} {onl
 linked-child m n {s} {p} its c previous a b o =
     rw (← its, ← previous, a, b, o) (a-child s _ c)
 
-module _ (m : Model) where
-  pub each-used : (test : ℕ → Shape → Bool) → eachShape m test ≡ true
-      → (n : ℕ) → freeShape (shapeAt m n) ≡ false → test n (shapeAt m n) ≡ true
-  unfolding shapeAt
-  each-used test e n u =
-      or-then (freeShape (shapeAt m n)) (every-numbered noShape _ (λ k. refl) (m .shapes) e n) u
+pub previous-place : (m : Model) → inRange m ≡ true → (n : ℕ) {s : Shape} → s ≡ shapeAt m n
+    → isChild s ≡ true → Place (length (m .shapes)) (s .previous)
+previous-place m e n {s} its c =
+    let (isShared, later) = and-both (shared s) c in
+    let used : freeShape (shapeAt m n) ≡ false = rw (← its) (shared-used s isShared) in
+    record {
+      low = from-one (s .previous) (eqb-false (s .previous) 0 (not-true (eqb (s .previous) 0) later));
+      high = rw its (shape-ranges m e n used .previous);
+    }
+  where
+    from-one : (k : ℕ) → k ≢ 0 → 1 ≤ k
+    from-one k ne = omega (arith, ne)
 
-  pub places-fit : inRange m ≡ true → (n : ℕ) → freeShape (shapeAt m n) ≡ false
-      → (shapeAt m n .previous ≤ length (m .shapes)) × (shapeAt m n .table ≤ length (m .tables))
-  unfolding inRange
-  places-fit e n u =
-      let s = shapeAt m n in
-      let S = length (m .shapes) in
-      let T = length (m .tables) in
-      let (kinds, table) =
-      and-both (leb (s .state) 2 && leb (s .step) 2 && leb (s .previous) S) {b = leb (s .table) T}
-      (each-used _ (and-both _ e .0) n u) in
-      let (_, previous) = and-both (leb (s .state) 2 && leb (s .step) 2) {b = leb (s .previous) S} kinds in
-      (leb-true (s .previous) S previous, leb-true (s .table) T table)
+-- ## Every child
 
-  pub previous-place : inRange m ≡ true → (n : ℕ) {s : Shape} → s ≡ shapeAt m n → isChild s ≡ true
-      → Place (length (m .shapes)) (s .previous)
-  previous-place e n {s} its c =
-      let (isShared, later) = and-both (shared s) c in
-      let used : freeShape (shapeAt m n) ≡ false = rw (← its) (shared-used s isShared) in
-      let inside = rw (← its) at (places-fit e n used .0) in
-      record {
-        low = from-one (s .previous) (eqb-false (s .previous) 0 (not-true (eqb (s .previous) 0) later));
-        high = inside;
-      }
-    where
-      from-one : (k : ℕ) → k ≢ 0 → 1 ≤ k
-      from-one k ne = omega (arith, ne)
+-- A test of each shape with its place, as a loop makes it.
+module _ (m : Model) (test : ℕ × Shape → Bool) where
+  abbrev pub Children : (done : ℕ) (answer : Bool) → Type 0
+  Children done answer = Scanning (placesScan noShape test (m .shapes)) done answer
+
+  pub child-tested : (k : ℕ) {b : Bool} → b ≡ test (k + 1, shapeAt m (k + 1))
+      → not b ≡ placesScan noShape test (m .shapes) .stops k
+  child-tested k e = ap not (e ∙ ap (λ (s : Shape). test (k + 1, s)) (shape-next m k))

@@ -3,41 +3,34 @@
 use mathlib.Core.Path.{_≡_, refl, sym, ap, _∙_}
 use mathlib.Core.Bool.{Bool, true, false, _&&_, not, and-true, and-false, and-assoc, true≢false}
 use mathlib.Core.List.{List, [], _∷_, _++_, map}
-use mathlib.Core.Logic.{inl, inr, _≢_}
+use mathlib.Core.Logic.{_⊎_, inl, inr, _≢_}
 use Prim.Native.Nat.{ℕ, zero, suc, _+_, _-_, _≤_, _<_}
 use native.Mathlib.Nat.{not-suc-le-zero, le-of-suc-le-suc}
 use native.Mathlib.Omega.{arith}
-use borrow.Author.Tests.{eqb-true, ne-eqb, leb-true, not-true}
-use lib.Dec.{eqb, leb}
+use borrow.Author.Tests.{ne-eqb}
+use lib.Dec.{eqb}
 use lib.ListN.{length, getD, take, length-map, length-append}
 use lib.Seq.{take-take, getD-take, length-take-le}
 use Rattle.slot.specs.If.{if_then_else_}
-use Rattle.slot.specs.Attributes.{width, sameWidth}
-use Rattle.store.specs.Lists.{at, numbered, lowest, every, onlyOne, agree}
-use Rattle.store.specs.ListLaws.{and-both, every-numbered, either, Decided}
-use Rattle.store.specs.Model.{free, Model, freeShape, freeTable, noShape, noEdge, noEntry}
-use Rattle.store.specs.Model.{shapeAt, tableAt}
+use Rattle.slot.specs.Attributes.{width}
+use Rattle.store.specs.Lists.{at, lowest, every, onlyOne, agree}
+use Rattle.store.specs.ListLaws.{and-both, every-numbered}
+use Rattle.store.specs.Model.{Model, noShape, noEdge, noEntry}
+use Rattle.store.specs.Model.{shapeAt}
 use Rattle.store.specs.Image.{Place}
+use Rattle.store.specs.PlaceLaws.{same?}
+use Rattle.store.specs.Scans.{Scanning, everyScan, stopped, went-on, ended}
 use Rattle.store.specs.declared.Shape.{Shape}
 use Rattle.store.specs.declared.Entry.{Entry}
 use Rattle.store.specs.declared.Edge.{Edge}
-use Rattle.rules.specs.Shapes.{entry, isKey, has, attributesIn, widths, pairs, shared, unique}
+use Rattle.rules.specs.Shapes.{entry, isKey, has, widths, pairs, shared}
 use Rattle.rules.specs.Shapes.{isChild, tableOf, entries}
 use Rattle.rules.specs.Steps.{configure, prototype, mayStep, stepEntries, stepPrototype}
 use Rattle.rules.specs.Sound.{inRange, tableInUse, countsFit, edgesTo, childrenLinked, stepOf, leads}
-use Rattle.rules.specs.Sound.{childrenStepped}
-use Rattle.sound_steps.specs.Scan.{Passing, pass-on, fails, passes}
-use Rattle.sound_steps.specs.Links.{Marked, none, one, several, childTest, a-child, shared-used}
-use Rattle.sound_steps.specs.Links.{isLinked, linked-each, each-used, places-fit}
-
--- ## Shapes whose entries can be read
-
-pub record Readable (m : Model) (s : Shape) : Type 0 where
-  pub table : Place (length (m .tables)) (s .table)
-  pub fits : s .properties ≤ length (tableOf m s)
-
-pub readable-long : {m : Model} {s : Shape} → Readable m s → length (entries m s) ≡ s .properties
-readable-long {m} {s} r = length-take-le (s .properties) (tableOf m s) (r .fits)
+use Rattle.rules.specs.InUse.{shared-used, Tabled, tabled}
+use Rattle.sound_shapes.specs.Keys.{tabled-long, key-absent, key-held}
+use Rattle.sound_steps.specs.Links.{Marked, none, one, several, childTest, a-child}
+use Rattle.sound_steps.specs.Links.{isLinked, linked-each}
 
 -- What is tested before a child's step.
 pub record Tested (m : Model) : Type 0 where
@@ -46,53 +39,9 @@ pub record Tested (m : Model) : Type 0 where
   pub counts : countsFit m ≡ true
   pub linked : childrenLinked m ≡ true
 
-module _ {m : Model} (t : Tested m) (n : ℕ) where
-  table-there : freeShape (shapeAt m n) ≡ false → 1 ≤ shapeAt m n .table
-  unfolding tableInUse tableAt
-  table-there u =
-      let its = each-used m (λ k s. not (freeTable (tableAt m (s .table)))) (t .inUse) n u in
-      go (shapeAt m n .table) (not-true _ its)
-    where
-      go : (k : ℕ) → freeTable (at (m .tables) k free) ≡ false → 1 ≤ k
-      go zero e = absurd (true≢false e)
-      go (suc k) e = omega arith
-
-  count-fits : freeShape (shapeAt m n) ≡ false → shapeAt m n .properties ≤ length (tableOf m (shapeAt m n))
-  unfolding countsFit
-  count-fits u = go (unique (shapeAt m n)) (each-used m _ (t .counts) n u)
-    where
-      go : (b : Bool)
-          → (if b then eqb (shapeAt m n .properties) (length (tableOf m (shapeAt m n)))
-          else leb (shapeAt m n .properties) (length (tableOf m (shapeAt m n)))) ≡ true
-          → shapeAt m n .properties ≤ length (tableOf m (shapeAt m n))
-      go true e = omega (arith, eqb-true (shapeAt m n .properties) (length (tableOf m (shapeAt m n))) e)
-      go false e = leb-true (shapeAt m n .properties) (length (tableOf m (shapeAt m n))) e
-
-  pub readable : {s : Shape} → s ≡ shapeAt m n → shared s ≡ true → Readable m s
-  readable {s} its e =
-      let u : freeShape (shapeAt m n) ≡ false = rw (← its) (shared-used s e) in
-      rw its (record {
-        table = record { low = table-there u; high = places-fit m (t .ranges) n u .1 };
-        fits = count-fits u;
-      })
-
--- ## A key among entries
-
--- The place is that of the key, the first at `start`; 0 where it is absent.
-pub data Sought (k : ℕ) (es : List Entry) (start place : ℕ) : Type 0 where
-  absent : place ≡ 0 → has k es ≡ false → Sought k es start place
-  held : (j : ℕ) → place ≡ start + j → j < length es → has k es ≡ true
-      → getD es j noEntry .attributes ≡ attributesIn k es → Sought k es start place
-
-sought-from : (k : ℕ) (es : List Entry) (start : ℕ) → Sought k es start (lowest (isKey k) start es)
-sought-from k [] start = absent refl refl
-sought-from k (e ∷ es) start = go (either (isKey k e)) (sought-from k es (suc start))
-  where
-    go : Decided (isKey k e) → Sought k es (suc start) (lowest (isKey k) (suc start) es)
-        → Sought k (e ∷ es) start (lowest (isKey k) start (e ∷ es))
-    go (inl q) s = rw q (held 0 (omega arith) (omega arith) (rw q) (rw q))
-    go (inr q) (absent z h) = rw q (absent z (rw q h))
-    go (inr q) (held j z l h a) = rw q (held (suc j) (omega (arith, z)) (omega arith) (rw q h) (rw q a))
+pub shared-tabled : {m : Model} → Tested m → (n : ℕ) {s : Shape} → s ≡ shapeAt m n → shared s ≡ true
+    → Tabled m s
+shared-tabled {m} t n {s} its e = tabled m (t .inUse) (t .counts) n its (shared-used s e)
 
 -- ## Entry by entry
 
@@ -113,7 +62,7 @@ module _ (step : Entry → Entry) where
   abbrev pub follows : Entry × Entry → Bool
   follows (f, e) = samePair f (step e)
 
-  pub agree-both : (fs es : List Entry) → length fs ≡ length es
+  agree-both : (fs es : List Entry) → length fs ≡ length es
       → every follows (both fs es) ≡ agree (pairs fs) (pairs (map step es))
   agree-both [] [] l = refl
   agree-both [] (e ∷ es) l = absurd (omega (arith, l))
@@ -132,12 +81,12 @@ both-at (f ∷ fs) [] k l h = absurd (not-suc-le-zero h)
 both-at (f ∷ fs) (e ∷ es) zero l h = refl
 both-at (f ∷ fs) (e ∷ es) (suc k) l h = both-at fs es k (omega (arith, l)) (le-of-suc-le-suc h)
 
-pub changed-never : (edge : Edge) (es : List Entry) → map (changed false edge) es ≡ es
+changed-never : (edge : Edge) (es : List Entry) → map (changed false edge) es ≡ es
 changed-never edge [] = refl
 changed-never edge (e ∷ es) = ap (λ (more : List Entry). e ∷ more) (changed-never edge es)
 
 -- Lists of other lengths do not agree.
-pub lengths-differ : (fs es : List Entry) → length fs ≢ length es → false ≡ agree (pairs fs) (pairs es)
+lengths-differ : (fs es : List Entry) → length fs ≢ length es → false ≡ agree (pairs fs) (pairs es)
 lengths-differ [] [] ne = absurd (ne refl)
 lengths-differ [] (e ∷ es) ne = refl
 lengths-differ (f ∷ fs) [] ne = refl
@@ -170,45 +119,27 @@ same-prototype zero edge p l = refl
 same-prototype (suc zero) edge p l = refl
 same-prototype (suc (suc kind)) edge p l = absurd (omega arith)
 
-module _ (edge : Edge) (es : List Entry) {place : ℕ} (its : place ≡ lowest (isKey (edge .label)) 1 es) where
-  its-key : Sought (edge .label) es 1 place
-  its-key = rw its (sought-from (edge .label) es 1)
-
-  pub key-inside : place ≢ 0 → place - 1 < length es
-  key-inside ne = go its-key
+module _ (edge : Edge) (es : List Entry) {place : ℕ} (its : place ≡ lowest (isKey (edge .label)) 1 es)
+    {kind : ℕ} where
+  pub may-insert : kind ≡ 0 → eqb place 0 ≡ mayStep (stepOf kind edge) es
+  may-insert e = rw e (go (same? place 0))
     where
-      go : Sought (edge .label) es 1 place → place - 1 < length es
-      go (absent z h) = absurd (ne z)
-      go (held j z l h a) = omega (arith, z)
+      go : (place ≡ 0) ⊎ (place ≢ 0) → eqb place 0 ≡ not (has (edge .label) es)
+      go (inl z) = rw (z, key-absent (edge .label) es its z)
+      go (inr ne) = rw (ne-eqb place 0 ne, key-held (edge .label) es its ne .held)
 
-  module _ {kind : ℕ} where
-    pub may-insert : kind ≡ 0 → eqb place 0 ≡ mayStep (stepOf kind edge) es
-    may-insert e = rw e (go its-key)
-      where
-        go : Sought (edge .label) es 1 place → eqb place 0 ≡ not (has (edge .label) es)
-        go (absent z h) = rw (z, h)
-        go (held j z l h a) = rw (h, ne-eqb place 0 (λ e. omega (arith, z)))
+  pub may-not-configure : kind ≤ 1 → kind ≢ 0 → place ≡ 0 → false ≡ mayStep (stepOf kind edge) es
+  may-not-configure high low out =
+      let e : kind ≡ 1 = omega (arith, low) in
+      rw (e, key-absent (edge .label) es its out)
 
-    pub may-not-configure : kind ≤ 1 → kind ≢ 0 → place ≡ 0 → false ≡ mayStep (stepOf kind edge) es
-    may-not-configure high low out = let e : kind ≡ 1 = omega (arith, low) in rw e (go its-key)
-      where
-        go : Sought (edge .label) es 1 place
-            → false ≡ (has (edge .label) es && sameWidth (attributesIn (edge .label) es) (edge .attributes))
-        go (absent z h) = rw h
-        go (held j z l h a) = absurd (omega (arith, z))
-
-    pub may-configure : {x : Entry} {wide other : ℕ} → kind ≤ 1 → kind ≢ 0 → place ≢ 0
-        → x ≡ getD es (place - 1) noEntry → wide ≡ width (x .attributes) → other ≡ width (edge .attributes)
-        → eqb wide other ≡ mayStep (stepOf kind edge) es
-    may-configure {x} high low ne is w v = let e : kind ≡ 1 = omega (arith, low) in rw (e, w, v) (go its-key)
-      where
-        go : Sought (edge .label) es 1 place
-            → sameWidth (x .attributes) (edge .attributes)
-            ≡ (has (edge .label) es && sameWidth (attributesIn (edge .label) es) (edge .attributes))
-        go (absent z h) = absurd (ne z)
-        go (held j z l h a) =
-            let at : place - 1 ≡ j = omega (arith, z) in
-            rw (h, ← a, is, at)
+  pub may-configure : {x : Entry} {wide other : ℕ} → kind ≤ 1 → kind ≢ 0 → place ≢ 0
+      → x ≡ getD es (place - 1) noEntry → wide ≡ width (x .attributes) → other ≡ width (edge .attributes)
+      → eqb wide other ≡ mayStep (stepOf kind edge) es
+  may-configure {x} high low ne is w v =
+      let e : kind ≡ 1 = omega (arith, low) in
+      let h = key-held (edge .label) es its ne in
+      rw (e, w, v, h .held, ← (h .attributes), is)
 
 -- A step that adds no key: those that are there, but for the key of a configure.
 kept-entries : (kind : ℕ) (edge : Edge) (es : List Entry) → kind ≢ 0
@@ -232,13 +163,13 @@ abbrev pub firstFollow : Model → (previous child : Shape) → Edge → (config
 firstFollow m p s edge configures =
     agree (pairs (take (p .properties) (tableOf m s))) (pairs (map (changed configures edge) (entries m p)))
 
-module _ {m : Model} {p s : Shape} (old : Readable m p) (new : Readable m s) (edge : Edge) where
+module _ {m : Model} {p s : Shape} (old : Tabled m p) (new : Tabled m s) (edge : Edge) where
   pub insert-differs : s .step ≡ 0 → s .properties ≢ p .properties + 1 → false ≡ entriesFollow m p s edge
   insert-differs e ne =
       let es = entries m p in
       let new-entry = entry (edge .label) (edge .attributes) (widths es) in
-      let few = readable-long old in
-      let many = readable-long new in
+      let few = tabled-long old in
+      let many = tabled-long new in
       rw e
       (lengths-differ (entries m s) (es ++ new-entry ∷ [])
       (λ q. ne (omega (arith, q, length-append es (new-entry ∷ [])))))
@@ -249,8 +180,8 @@ module _ {m : Model} {p s : Shape} (old : Readable m p) (new : Readable m s) (ed
       ≡ entriesFollow m p s edge
   insert-follows e longer f l =
       let es = entries m p in
-      let few = readable-long old in
-      let many = readable-long new in
+      let few = tabled-long old in
+      let many = tabled-long new in
       let new-entry = entry (edge .label) (edge .attributes) (widths es) in
       let all = last-agrees (entries m s) es new-entry (omega arith) in
       let before : take (p .properties) (entries m s) ≡ take (p .properties) (tableOf m s)
@@ -264,8 +195,8 @@ module _ {m : Model} {p s : Shape} (old : Readable m p) (new : Readable m s) (ed
     others-differ differ =
         let es = entries m p in
         let after = map (changed (eqb (s .step) 1) edge) es in
-        let few = readable-long old in
-        let many = readable-long new in
+        let few = tabled-long old in
+        let many = tabled-long new in
         rw (← (kept-entries (s .step) edge es ne))
         (lengths-differ (entries m s) after
         (λ q. differ (omega (arith, q, length-map es (changed (eqb (s .step) 1) edge)))))
@@ -281,13 +212,15 @@ abbrev pub compared : Model → (previous child : Shape) → List (Entry × Entr
 compared m p s = both (take (p .properties) (tableOf m s)) (entries m p)
 
 abbrev pub Comparing : Model → (previous child : Shape) → Edge → (configures : Bool) → (done : ℕ) → Type 0
-Comparing m p s edge configures done = Passing (follows (changed configures edge)) (compared m p s) done
+Comparing m p s edge configures done =
+    Scanning (everyScan (noEntry, noEntry) (follows (changed configures edge)) (compared m p s)) done
+    (every (follows (changed configures edge)) (compared m p s))
 
 module _
     {m : Model}
     {p s : Shape}
-    (old : Readable m p)
-    (new : Readable m s)
+    (old : Tabled m p)
+    (new : Tabled m s)
     (fits : p .properties ≤ s .properties)
     (edge : Edge)
     (configures : Bool)
@@ -295,10 +228,10 @@ module _
     as-long : length (take (p .properties) (tableOf m s)) ≡ length (entries m p)
     as-long =
         let room = new .fits in
-        length-take-le (p .properties) (tableOf m s) (omega arith) ∙ sym (readable-long old)
+        length-take-le (p .properties) (tableOf m s) (omega arith) ∙ sym (tabled-long old)
 
     many : length (compared m p s) ≡ p .properties
-    many = length-both (take (p .properties) (tableOf m s)) (entries m p) as-long ∙ readable-long old
+    many = length-both (take (p .properties) (tableOf m s)) (entries m p) as-long ∙ tabled-long old
 
     ends : every (follows (changed configures edge)) (compared m p s) ≡ firstFollow m p s edge configures
     ends = agree-both (changed configures edge) (take (p .properties) (tableOf m s)) (entries m p) as-long
@@ -313,13 +246,10 @@ module _
           (after : x ≡ changed configures edge e)
           (same : r ≡ samePair f x)
         where
-          inside : done < length (compared m p s)
-          inside = rw many l
-
           tested : follows (changed configures edge) (getD (compared m p s) done (noEntry, noEntry)) ≡ r
           tested =
               let firsts = take (p .properties) (tableOf m s) in
-              let few = readable-long old in
+              let few = tabled-long old in
               let pair = both-at firsts (entries m p) done as-long (omega arith) in
               rw (
                 pair,
@@ -332,13 +262,13 @@ module _
               (sym same)
 
           pub compare-on : r ≡ true → Comparing m p s edge configures (done + 1)
-          compare-on passed = pass-on _ c (noEntry, noEntry) inside (tested ∙ passed)
+          compare-on passed = went-on c (sym many) l (ap not (sym tested)) (ap not passed)
 
           pub compare-fails : r ≡ false → false ≡ firstFollow m p s edge configures
-          compare-fails failed = fails _ c (noEntry, noEntry) inside (tested ∙ failed) ∙ ends
+          compare-fails failed = stopped c (sym many) l (ap not (sym tested)) (ap not failed) ∙ ends
 
       pub compare-all : p .properties ≤ done → true ≡ firstFollow m p s edge configures
-      compare-all l = passes _ c (rw many l) ∙ ends
+      compare-all l = ended c (sym many) l ∙ ends
 
 -- ## One child
 
@@ -348,10 +278,6 @@ isStepped m (n, s) =
     childTest s
     (every (λ e. leads (stepOf (s .step) e) (entries m p) (p .prototype) (entries m s) (s .prototype))
     (edgesTo m n))
-
-pub stepped-each : (m : Model) → childrenStepped m ≡ every (isStepped m) (numbered 1 (m .shapes))
-unfolding childrenStepped
-stepped-each m = refl
 
 -- What the link of a child says.
 pub linked-says : {m : Model} → Tested m → (n : ℕ) {s p : Shape} → s ≡ shapeAt m n → isChild s ≡ true

@@ -2,6 +2,7 @@
 use crate::links::edges_by_child;
 use crate::links::is_child;
 use slot::KeyPosition;
+use sound_shapes::keys::place_of_key;
 use store::Edge;
 use store::Entry;
 use store::Shape;
@@ -14,15 +15,15 @@ ghost use mathlib.Core.Path.{_≡_};
 ghost use Prim.Native.Nat.{_≤_};
 ghost use lib.ListN.{length};
 ghost use Rattle.slot.specs.Attributes.{width};
-ghost use Rattle.store.specs.Lists.{lowest};
 ghost use Rattle.store.specs.Model.{shapeAt};
 ghost use Rattle.store.specs.Layout.{parse};
 ghost use Rattle.store.specs.Image.{Formed, Place};
-ghost use Rattle.rules.specs.Shapes.{isKey, entries};
+ghost use Rattle.rules.specs.Shapes.{entries};
 ghost use Rattle.rules.specs.Steps.{mayStep, stepPrototype};
 ghost use Rattle.rules.specs.Sound.{edgesTo, stepOf, leads, childrenStepped};
 ghost use Rattle.sound_steps.specs.Links.{Marked};
-ghost use Rattle.sound_steps.specs.StepLaws.{Readable, Tested, samePair, changed, isStepped};
+ghost use Rattle.rules.specs.InUse.{Tabled};
+ghost use Rattle.sound_steps.specs.StepLaws.{Tested, samePair, changed, isStepped};
 ghost use Rattle.sound_steps.specs.StepLaws.{firstFollow, entriesFollow};
 
 // An edge's attributes are not tested before its step, so that they may not fit the attribute byte.
@@ -36,33 +37,15 @@ fn width(attributes: u32) -> u32
     }
 }
 
-// The place of a key among a shape's entries, 0 where it is absent.
-fn place_of(image: &[u32], s: Shape, key: u32) -> u32
-    requires { ⌜ Formed (now image) ⌝ }
-    requires { ⌜ Readable (parse (now image)) s ⌝ }
-    ensures { λ r. ⌜ r ≡ lowest (isKey key) 1 (entries (parse (now (image .entry))) s) ⌝ }
-{
-    let count = s.properties;
-    let mut done = 0;
-    while done < count {
-        let e = get_entry(image, s.table, KeyPosition(done));
-        if e.key == key {
-            return done + 1;
-        }
-        done += 1;
-    }
-    0
-}
-
 fn may_step(image: &[u32], p: Shape, kind: u32, edge: Edge) -> bool
     requires { ⌜ Formed (now image) ⌝ }
-    requires { ⌜ Readable (parse (now image)) p ⌝ }
+    requires { ⌜ Tabled (parse (now image)) p ⌝ }
     ensures { λ r. ⌜ r ≡ mayStep (stepOf kind edge) (entries (parse (now (image .entry))) p) ⌝ }
 {
     if kind > 1 {
         return true;
     }
-    let place = place_of(image, p, edge.label);
+    let place = place_of_key(image, p, edge.label);
     if kind == 0 {
         return place == 0;
     }
@@ -98,8 +81,8 @@ fn entry_after(configures: bool, edge: Edge, e: Entry) -> Entry
 // stands after those of the previous.
 fn same_first(image: &[u32], p: Shape, s: Shape, edge: Edge, configures: bool) -> bool
     requires { ⌜ Formed (now image) ⌝ }
-    requires { ⌜ Readable (parse (now image)) p ⌝ }
-    requires { ⌜ Readable (parse (now image)) s ⌝ }
+    requires { ⌜ Tabled (parse (now image)) p ⌝ }
+    requires { ⌜ Tabled (parse (now image)) s ⌝ }
     requires { ⌜ p .properties ≤ s .properties ⌝ }
     ensures { λ r. ⌜ r ≡ firstFollow (parse (now (image .entry))) p s edge configures ⌝ }
 {
@@ -118,8 +101,8 @@ fn same_first(image: &[u32], p: Shape, s: Shape, edge: Edge, configures: bool) -
 
 fn entries_follow(image: &[u32], p: Shape, s: Shape, edge: Edge) -> bool
     requires { ⌜ Formed (now image) ⌝ }
-    requires { ⌜ Readable (parse (now image)) p ⌝ }
-    requires { ⌜ Readable (parse (now image)) s ⌝ }
+    requires { ⌜ Tabled (parse (now image)) p ⌝ }
+    requires { ⌜ Tabled (parse (now image)) s ⌝ }
     ensures { λ r. ⌜ r ≡ entriesFollow (parse (now (image .entry))) p s edge ⌝ }
 {
     let before = p.properties;
@@ -145,8 +128,8 @@ fn prototype_after(kind: u32, edge: Edge, prototype: u32) -> u32
 
 fn leads(image: &[u32], p: Shape, s: Shape, edge: Edge) -> bool
     requires { ⌜ Formed (now image) ⌝ }
-    requires { ⌜ Readable (parse (now image)) p ⌝ }
-    requires { ⌜ Readable (parse (now image)) s ⌝ }
+    requires { ⌜ Tabled (parse (now image)) p ⌝ }
+    requires { ⌜ Tabled (parse (now image)) s ⌝ }
     ensures { λ r. ⌜
         r ≡ leads (stepOf (s .step) edge) (entries (parse (now (image .entry))) p) (p .prototype)
         (entries (parse (now (image .entry))) s) (s .prototype)

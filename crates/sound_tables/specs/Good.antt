@@ -1,25 +1,24 @@
 -- The test of the tables' entries: keys, attributes and slots.
 -- Assumes nothing.
 use mathlib.Core.Path.{_≡_, refl, sym, ap, _∙_}
-use mathlib.Core.Bool.{Bool, true, false, _&&_, _||_, not, and-true, and-false}
+use mathlib.Core.Bool.{Bool, true, false, _&&_, not, and-true, and-false}
 use mathlib.Core.List.{List, map}
 use Prim.Native.Nat.{ℕ, suc, _+_, _*_, _≤_, _<_}
 use native.Mathlib.Numerals.{add-one}
 use native.Mathlib.Omega.{arith}
 use borrow.Author.Tests.{leb-true}
 use lib.Dec.{eqb}
-use lib.ListN.{length, getD, drop, length-map, List·getD-map}
+use lib.ListN.{length, getD, drop}
 use lib.Seq.{drop-cons, drop-length}
 use Rattle.slot.specs.If.{if_then_else_}
 use Rattle.slot.specs.Attributes.{goodAttributes, accessor, width}
 use Rattle.store.specs.Lists.{at, every, any}
 use Rattle.store.specs.ListLaws.{and-both, every-place}
+use Rattle.store.specs.Scans.{Scan, Scanning, scan, scanOf, placesScan, and-if, none-if, table-next}
 use Rattle.store.specs.Model.{Table, free, used, Model, noEntry, entriesOf, tableAt}
 use Rattle.store.specs.declared.Entry.{Entry}
 use Rattle.rules.specs.Numbers.{goodKey}
-use Rattle.rules.specs.Shapes.{widths}
 use Rattle.rules.specs.Sound.{onTable, distinct, slotsFrom, goodEntries, tablesGood}
-use Rattle.sound_tables.specs.Testing.{Testing, EveryPlace, every-place-from}
 
 -- ## Names for parts of the sentence
 
@@ -30,54 +29,30 @@ abbrev pub goodEntry : Entry → Bool
 goodEntry e = goodKey (e .key) && goodAttributes (e .attributes)
 
 -- No key after the one at a position is the same.
-unfoldable pub noneAfter : List ℕ → ℕ → Bool
-noneAfter ks k = not (any (eqb (getD ks k 0)) (drop (k + 1) ks))
+unfoldable pub noneAfter : List Entry → ℕ → Bool
+noneAfter es k = not (any (eqb (getD es k noEntry .key)) (keysOf (drop (suc k) es)))
 
 -- ## Keys
 
-pub key-read : (es : List Entry) (k : ℕ) → getD es k noEntry .key ≡ getD (keysOf es) k 0
-key-read es k = sym (List·getD-map (λ e. e .key) es k noEntry)
+-- A key against those of the entries left.
+abbrev pub apartScan : ℕ → List Entry → Scan Bool
+apartScan key =
+    scanOf noEntry (λ k es. not (any (eqb key) (keysOf es))) (λ k e es. eqb key (e .key)) (λ k e. false)
+    (λ k e es. none-if (eqb key (e .key)) (any (eqb key) (keysOf es)))
 
-pub keys-many : (es : List Entry) → length (keysOf es) ≡ length es
-keys-many es = length-map es (λ e. e .key)
-
--- A key against those from k on, one after the other.
-abbrev pub Apart : (key : ℕ) (ks : List ℕ) (n done : ℕ) (answer : Bool) → Type 0
-Apart key ks n done answer =
-    Testing (λ k. not (eqb key (getD ks k 0))) (λ k. not (any (eqb key) (drop k ks))) n done answer
-
-none-more : (b c : Bool) → not (b || c) ≡ (not b && not c)
-none-more true c = refl
-none-more false c = refl
-
-pub apart-from : {n : ℕ} (key : ℕ) (ks : List ℕ) (start : ℕ) → n ≡ length ks → start ≤ n
-    → Apart key ks n start (not (any (eqb key) (drop start ks)))
-apart-from {n} key ks start e l =
-    record {
-      next = λ i h. rw (drop-cons ks i 0 (omega arith), add-one)
-          (none-more (eqb key (getD ks i 0)) (any (eqb key) (drop (suc i) ks)));
-      end = rw (e, drop-length);
-      within = l;
-      same = refl;
-    }
-
-pub none-after : (ks : List ℕ) (k : ℕ) {key : ℕ} → key ≡ getD ks k 0
-    → not (any (eqb key) (drop (k + 1) ks)) ≡ noneAfter ks k
+pub none-after : (es : List Entry) (k : ℕ) {e : Entry} → e ≡ getD es k noEntry
+    → not (any (eqb (e .key)) (keysOf (drop (k + 1) es))) ≡ noneAfter es k
 unfolding noneAfter
-none-after ks k e = rw e
+none-after es k e = rw (e, add-one)
 
-abbrev pub Distinct : (ks : List ℕ) (n done : ℕ) → Type 0
-Distinct ks n done = Testing (noneAfter ks) (λ k. distinct (drop k ks)) n done (distinct ks)
+abbrev pub distinctScan : List Entry → Scan Bool
+distinctScan =
+    scanOf noEntry (λ k es. distinct (keysOf es)) (λ k e es. not (not (any (eqb (e .key)) (keysOf es))))
+    (λ k e. false) (λ k e es. and-if (not (any (eqb (e .key)) (keysOf es))) (distinct (keysOf es)))
 
-pub distinct-from : {n : ℕ} (ks : List ℕ) → n ≡ length ks → Distinct ks n 0
+pub last-tested : (es : List Entry) (k : ℕ) {b : Bool} → b ≡ noneAfter es k → not b ≡ distinctScan es .stops k
 unfolding noneAfter
-distinct-from {n} ks e =
-    record {
-      next = λ k h. rw (drop-cons ks k 0 (omega arith), add-one);
-      end = rw (e, drop-length);
-      within = omega arith;
-      same = refl;
-    }
+last-tested es k e = ap not e
 
 -- ## Slots
 
@@ -150,21 +125,16 @@ module _ (es : List Entry) where
 abbrev pub goodTable : ℕ × Table → Bool
 goodTable p = onTable (λ t es. goodEntries es) p
 
-pub table-place : (m : Model) (k : ℕ) → tableAt m (k + 1) ≡ getD (m .tables) k free
-unfolding tableAt
-table-place m k = rw add-one
-
 -- A free table has no entries, and so nothing that could be wrong.
 pub table-entries : (m : Model) (k : ℕ) {b : Bool} → b ≡ goodEntries (entriesOf (tableAt m (k + 1)))
     → b ≡ goodTable (k + 1, getD (m .tables) k free)
 table-entries m k e =
-    e ∙ ap (λ (x : Table). goodEntries (entriesOf x)) (table-place m k) ∙ go (getD (m .tables) k free)
+    e ∙ ap (λ (x : Table). goodEntries (entriesOf x)) (table-next m k) ∙ go (getD (m .tables) k free)
   where
     go : (x : Table) → goodEntries (entriesOf x) ≡ goodTable (k + 1, x)
     go free = refl
     go (used es) = refl
 
-pub tables-from : {n : ℕ} (m : Model) → n ≡ length (m .tables)
-    → EveryPlace goodTable (m .tables) free n 0 (tablesGood m)
+pub tables-from : (m : Model) → Scanning (placesScan free goodTable (m .tables)) 0 (tablesGood m)
 unfolding tablesGood
-tables-from m e = every-place-from goodTable (m .tables) free e
+tables-from m = scan (placesScan free goodTable (m .tables)) 0 (omega arith)

@@ -1,4 +1,3 @@
-pub mod Testing
 pub mod Tidy
 pub mod Good
 pub mod Used

@@ -15,7 +15,7 @@ use Rattle.store.specs.ListLaws.{and-both, both-and, all-passed, agree→≡}
 use Rattle.store.specs.Model.{limitsOf}
 use Rattle.store.specs.Layout.{limitsIn, limitSentences, goodLimits, goodHeader, header}
 use Rattle.store.specs.Layout.{tidyTable, tidyTables}
-use Rattle.store.specs.Layout.{total, laidOut, parse, tablesOffset, tableWidth, within, rows}
+use Rattle.store.specs.Layout.{total, laidOut, parse, tablesOffset, tableWidth, rows}
 use Rattle.store.specs.ThereAndBack.{limits-parse, fits-parse, words-parse}
 use Rattle.store.specs.FreePlaces.{Area, row-at-place}
 use Rattle.store.specs.Image.{Formed}
@@ -83,7 +83,7 @@ module _ (ws : List ℕ) where
     header-there = let long = facts .1 in omega arith
 
     -- The sixth word says where the tables lie: within the image.
-    pub tables-word : getD ws 5 0 ≡ tablesOffset (limitsIn ws)
+    tables-word : getD ws 5 0 ≡ tablesOffset (limitsIn ws)
     tables-word = sym (getD-take 8 ws 5 0 (omega arith)) ∙ ap (λ (r : List ℕ). getD r 5 0) (facts .0)
 
     module _

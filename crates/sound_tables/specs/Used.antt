@@ -6,24 +6,21 @@ use mathlib.Core.List.{List}
 use mathlib.Core.Logic.{_⊎_, inl, inr}
 use Prim.Native.Nat.{ℕ, _+_, _≤_, _<_}
 use native.Mathlib.Nat.{add-zero}
-use native.Mathlib.Numerals.{add-one}
 use native.Mathlib.Omega.{arith}
-use borrow.Author.Tests.{leb-true, eqb-true, eq-eqb, ne-eqb}
+use borrow.Author.Tests.{eqb-true, eq-eqb, ne-eqb}
 use lib.Dec.{eqb, leb}
 use lib.ListN.{length, getD, set, replicate, length-set, length-replicate, getD-replicate}
 use lib.Seq.{getD-set-same, getD-set-other}
 use Rattle.slot.specs.If.{if_then_else_}
-use Rattle.store.specs.Lists.{numbered, every}
 use Rattle.store.specs.PlaceLaws.{same?}
-use Rattle.store.specs.ListLaws.{and-both, or-then, every-numbered}
 use Rattle.store.specs.Model.{Table, free, used, Model, noShape, freeShape, freeTable, shapeAt, tableAt}
 use Rattle.store.specs.Layout.{parse}
-use Rattle.store.specs.FreePlaces.{Counting, count, count-next, counted-all}
+use Rattle.store.specs.Scans.{Counting, count, count-next, counted-all, shape-next, table-next}
 use Rattle.store.specs.Image.{Formed}
 use Rattle.store.specs.declared.Shape.{Shape}
 use Rattle.rules.specs.Shapes.{unique}
 use Rattle.rules.specs.Sound.{eachShape, onTable, eachTable, inRange, uses, users, tablesUsed}
-use Rattle.sound_tables.specs.Good.{table-place}
+use Rattle.rules.specs.InUse.{shape-ranges}
 
 -- ## Names for parts of the sentence
 
@@ -118,37 +115,13 @@ users-all c many l =
 
 -- ## Shapes in range
 
-shape-place : (m : Model) (k : ℕ) → shapeAt m (k + 1) ≡ getD (m .shapes) k noShape
-unfolding shapeAt
-shape-place m k = rw add-one
-
-abbrev shapeInRange : Model → ℕ × Shape → Bool
-shapeInRange m (n, s) =
-    freeShape s
-    || (leb (s .state) 2
-    && leb (s .step) 2
-    && leb (s .previous) (length (m .shapes))
-    && leb (s .table) (length (m .tables)))
-
 module _ {ws : List ℕ} (f : Formed ws) (ranged : inRange (parse ws) ≡ true) where
-  table-low : (k : ℕ) {s : Shape} → s ≡ shapeAt (parse ws) (k + 1) → freeShape s ≡ false
-      → s .table ≤ length (parse ws .tables)
-  unfolding inRange shapeAt
-  table-low k {s} read inUse =
-      let m = parse ws in
-      let low = and-both (every (shapeInRange m) (numbered 1 (m .shapes))) ranged .0 in
-      let its : shapeInRange m (k + 1, s) ≡ true =
-      rw read (every-numbered noShape (shapeInRange m) (λ n. refl) (m .shapes) low (k + 1)) in
-      leb-true _ _
-      (and-both (leb (s .state) 2 && leb (s .step) 2 && leb (s .previous) (length (m .shapes)))
-      (or-then (freeShape s) its inUse) .1)
-
   pub shape-sited : (counts : List ℕ) (k : ℕ) {s : Shape} → length counts ≡ 65536
       → s ≡ shapeAt (parse ws) (k + 1) → Sited counts s
   shape-sited counts k long read inUse =
       let few = f .limited .tables in
-      let low = table-low k read inUse in
-      omega arith
+      let low = shape-ranges (parse ws) ranged (k + 1) (rw (← read) inUse) .table in
+      rw read (omega arith)
 
   module _ {n done : ℕ} {counts : List ℕ} {s : Shape} (c : CountingUsers (parse ws) done counts)
       (many : n ≡ length (parse ws .shapes)) (l : done < n) (read : s ≡ shapeAt (parse ws) (done + 1))
@@ -173,7 +146,7 @@ module _ {ws : List ℕ} (f : Formed ws) (ranged : inRange (parse ws) ≡ true) 
             each = λ t h.
                 rw (e, count-user counts s t (shape-sited counts done (c .long) read))
                 (count-next (uses t) (c .each t h) noShape (omega arith)
-                (ap (λ (x : Shape). if uses t x then 1 else 0) (read ∙ shape-place (parse ws) done)));
+                (ap (uses t) (read ∙ shape-next (parse ws) done)) refl);
           }
 
 -- ## Each table in use
@@ -185,7 +158,7 @@ table-users {t = t} (used es) u l e q = rw (q, e, u .each t l)
 
 pub table-at : (m : Model) (k : ℕ) {b : Bool} → b ≡ tableUsed m (k + 1, tableAt m (k + 1))
     → b ≡ tableUsed m (k + 1, getD (m .tables) k free)
-table-at m k e = e ∙ ap (λ (x : Table). tableUsed m (k + 1, x)) (table-place m k)
+table-at m k e = e ∙ ap (λ (x : Table). tableUsed m (k + 1, x)) (table-next m k)
 
 -- ## Each unique shape
 
@@ -196,7 +169,7 @@ pub alone-at : {m : Model} {counts : List ℕ} (k : ℕ) {s : Shape} {b : Bool} 
     → s ≡ shapeAt m (k + 1) → b ≡ aloneIn counts s
     → b ≡ uniqueAlone m (k + 1, getD (m .shapes) k noShape)
 alone-at {m} {counts} k {s} u sited read e =
-    e ∙ go (freeShape s) refl ∙ ap (λ (x : Shape). uniqueAlone m (k + 1, x)) (read ∙ shape-place m k)
+    e ∙ go (freeShape s) refl ∙ ap (λ (x : Shape). uniqueAlone m (k + 1, x)) (read ∙ shape-next m k)
   where
     go : (b : Bool) → freeShape s ≡ b
         → aloneIn counts s ≡ (b || (not (unique s) || eqb (users m (s .table)) 1))

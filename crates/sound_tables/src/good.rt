@@ -1,5 +1,6 @@
 // Whether each table has distinct good keys, attributes up to 31, and each slot index equal to the
 // sum of the widths before it.
+use rules::good_key;
 use slot::KeyPosition;
 use slot::SlotAttributes;
 use store::Entry;
@@ -9,29 +10,14 @@ use store::image::table_count;
 ghost use mathlib.Core.Path.{_≡_};
 ghost use mathlib.Core.Bool.{Bool};
 ghost use Prim.Native.Nat.{_≤_, _<_};
-ghost use lib.ListN.{length, getD};
+ghost use lib.ListN.{length};
 ghost use Rattle.slot.specs.Attributes.{width};
 ghost use Rattle.store.specs.Lists.{every};
 ghost use Rattle.store.specs.Model.{tableAt, entriesOf};
 ghost use Rattle.store.specs.Layout.{parse};
 ghost use Rattle.store.specs.Image.{Formed, Place};
-ghost use Rattle.rules.specs.Numbers.{goodKey};
 ghost use Rattle.rules.specs.Sound.{distinct, slotsFrom, goodEntries, tablesGood};
 ghost use Rattle.sound_tables.specs.Good.{goodEntry, keysOf, noneAfter};
-
-// 2^30: a key is its kind times this, and an id.
-const ONE_KIND: u32 = 1073741824;
-
-fn key_at(image: &[u32], t: u32, position: KeyPosition) -> u32
-    requires { ⌜ Formed (now image) ⌝ }
-    requires { ⌜ Place (length (parse (now image) .tables)) t ⌝ }
-    requires { ⌜ position .0 < length (entriesOf (tableAt (parse (now image)) t)) ⌝ }
-    ensures { λ r. ⌜
-        r ≡ getD (keysOf (entriesOf (tableAt (parse (now (image .entry))) t))) (position .0) 0
-        ⌝ }
-{
-    get_entry(image, t, position).key
-}
 
 // No later key is the one at this position.
 fn key_is_last(image: &[u32], t: u32, position: KeyPosition) -> bool
@@ -39,14 +25,14 @@ fn key_is_last(image: &[u32], t: u32, position: KeyPosition) -> bool
     requires { ⌜ Place (length (parse (now image) .tables)) t ⌝ }
     requires { ⌜ position .0 < length (entriesOf (tableAt (parse (now image)) t)) ⌝ }
     ensures { λ r. ⌜
-        r ≡ noneAfter (keysOf (entriesOf (tableAt (parse (now (image .entry))) t))) (position .0)
+        r ≡ noneAfter (entriesOf (tableAt (parse (now (image .entry))) t)) (position .0)
         ⌝ }
 {
     let count = entry_count(image, t);
-    let key = key_at(image, t, position);
+    let key = get_entry(image, t, position).key;
     let mut done = position.0 + 1;
     while done < count {
-        if key == key_at(image, t, KeyPosition(done)) {
+        if key == get_entry(image, t, KeyPosition(done)).key {
             return false;
         }
         done += 1;
@@ -68,12 +54,6 @@ fn keys_distinct(image: &[u32], t: u32) -> bool
         done += 1;
     }
     true
-}
-
-fn good_key(key: u32) -> bool
-    ensures { λ r. ⌜ r ≡ goodKey key ⌝ }
-{
-    key / ONE_KIND < 3
 }
 
 fn good_entry(e: Entry) -> bool

@@ -1,12 +1,13 @@
 -- Words read as steps, three words for each.
 -- Assumes nothing.
 use mathlib.Core.List.{List, [], _∷_, map}
-use mathlib.Core.Path.{_≡_, refl, ap}
+use mathlib.Core.Path.{_≡_, refl, ap, _∙_}
 use Prim.Native.Nat.{ℕ, zero, suc, _+_, _-_, _*_, _/_, _<_, _≤_}
 use native.Mathlib.Nat.{not-suc-le-zero, le-of-suc-le-suc}
 use native.Mathlib.Omega.{arith}
 use borrow.Rule.Slice.PartMut.{midOf, putMid}
-use lib.ListN.{length, getD, set, drop, drop-of-length-le, length-map}
+use lib.ListN.{length, getD, set, drop, drop-of-length-le, length-map, List·getD-map}
+use lib.Seq.{drop-cons}
 use Rattle.store.specs.Rows.{mul-suc-left}
 use Rattle.store.specs.Spots.{part-lent, mid-past, put-past}
 use Rattle.rules.specs.declared.StepRecord.{StepRecord}
@@ -46,7 +47,7 @@ count-records (k ∷ l ∷ a ∷ ws) = let n = count-records ws in omega arith
 pub step-inside : (ws : List ℕ) (i : ℕ) → i < length (records ws) → 3 * i + 3 ≤ length ws
 step-inside ws i h = let n = count-records ws in omega arith
 
-pub step-read : (ws : List ℕ) (i : ℕ) → i < length (records ws)
+step-read : (ws : List ℕ) (i : ℕ) → i < length (records ws)
     → midOf (3 * i) 3 ws ≡ stepWords (getD (records ws) i noStep)
 step-read [] i h = absurd (not-suc-le-zero h)
 step-read (k ∷ []) i h = absurd (not-suc-le-zero h)
@@ -55,7 +56,7 @@ step-read (k ∷ l ∷ a ∷ ws) zero h = refl
 step-read (k ∷ l ∷ a ∷ ws) (suc i) h =
     rw (mul-suc-left, mid-past (k ∷ l ∷ a ∷ []) ws 3 (3 * i) 3 refl) (step-read ws i (le-of-suc-le-suc h))
 
-pub step-write : (ws : List ℕ) (i : ℕ) (t : StepRecord) → i < length (records ws)
+step-write : (ws : List ℕ) (i : ℕ) (t : StepRecord) → i < length (records ws)
     → records (putMid (3 * i) 3 ws (stepWords t)) ≡ set (records ws) i t
 step-write [] i t h = absurd (not-suc-le-zero h)
 step-write (k ∷ []) i t h = absurd (not-suc-le-zero h)
@@ -78,15 +79,13 @@ module _ (ws : List ℕ) (i : ℕ) (h : i < length (records ws)) {a b : ℕ} (st
 
 -- ## The steps from one on
 
-pub steps-from : (ws : List ℕ) (i : ℕ) → i < length (records ws)
-    → drop i (stepsIn ws) ≡ stepIn (getD (records ws) i noStep) ∷ drop (suc i) (stepsIn ws)
-steps-from ws i h = go (records ws) i h
-  where
-    go : (ts : List StepRecord) (i : ℕ) → i < length ts
-        → drop i (map stepIn ts) ≡ stepIn (getD ts i noStep) ∷ drop (suc i) (map stepIn ts)
-    go [] i h = absurd (not-suc-le-zero h)
-    go (t ∷ ts) zero h = refl
-    go (t ∷ ts) (suc i) h = go ts i (le-of-suc-le-suc h)
+-- A step was read: it is the first of those from there on.
+pub next-step : (ws : List ℕ) (i : ℕ) {t : StepRecord} → i < length (records ws)
+    → t ≡ getD (records ws) i noStep
+    → drop i (stepsIn ws) ≡ stepIn t ∷ drop (suc i) (stepsIn ws)
+next-step ws i inside read =
+    drop-cons (stepsIn ws) i (stepIn noStep) (rw (length-map (records ws) stepIn) inside)
+    ∙ rw (List·getD-map stepIn (records ws) i noStep, ← read)
 
 pub steps-end : (ws : List ℕ) {i : ℕ} → length (records ws) ≤ i → drop i (stepsIn ws) ≡ []
 steps-end ws {i} end = drop-of-length-le (stepsIn ws) {i = i} (rw (length-map (records ws) stepIn) end)

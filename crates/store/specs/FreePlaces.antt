@@ -6,15 +6,14 @@ use mathlib.Core.Bool.{Bool, true, false}
 use mathlib.Core.List.{List, [], _∷_, map}
 use Prim.Native.Nat.{ℕ, zero, suc, _+_, _-_, _*_, _≤_, _<_}
 use native.Mathlib.Nat.{mul-zero, not-suc-le-zero, le-of-suc-le-suc}
-use native.Mathlib.Numerals.{add-one}
 use native.Mathlib.Omega.{arith}
 use borrow.Rule.Slice.PartMut.{midOf}
 use borrow.Author.Tests.{ne-eqb}
 use lib.Dec.{eqb}
 use lib.ListN.{length, getD, take, drop, length-drop}
-use lib.Seq.{length-take-le, drop-cons, drop-length, drop-drop}
+use lib.Seq.{length-take-le, drop-drop}
 use Rattle.slot.specs.If.{if_then_else_}
-use Rattle.store.specs.Lists.{at, lowest, keep}
+use Rattle.store.specs.Lists.{lowest, keep}
 use Rattle.store.specs.Model.{limitsOf, freeShape, freeTable, freeEdge}
 use Rattle.store.specs.Layout.{rows, readShape, readTable, readEntries, readEdge, tableWidth, total}
 use Rattle.store.specs.Layout.{parse}
@@ -24,71 +23,6 @@ use Rattle.store.specs.Rows.{mul-suc-left}
 use Rattle.store.specs.Spots.{spot}
 use Rattle.store.specs.declared.Limits.{Limits}
 use Rattle.store.specs.Image.{Place, Formed, lays-length, spot-inside}
-
--- ## A scan of a list, with so many records done
-
-module _ {A : Type 0} (test : A → Bool) where
-  -- The lowest place among the records that are left is the lowest of all.
-  pub record Seeking (xs : List A) (done : ℕ) : Type 0 where
-    pub within : done ≤ length xs
-    pub rest : lowest test (done + 1) (drop done xs) ≡ lowest test 1 xs
-
-  pub seek : (xs : List A) → Seeking xs 0
-  seek xs = record { within = omega arith; rest = refl }
-
-  module _ {xs : List A} {done : ℕ} (s : Seeking xs done) where
-    next : (d : A) → done < length xs
-        → lowest test 1 xs
-        ≡ (if test (getD xs done d) then done + 1 else lowest test (done + 1 + 1) (drop (done + 1) xs))
-    next d l = sym (s .rest) ∙ rw (drop-cons xs done d l, add-one done, add-one (suc done))
-
-    pub sought : (d : A) → done < length xs → test (getD xs done d) ≡ true → done + 1 ≡ lowest test 1 xs
-    sought d l e = sym (next d l ∙ rw e)
-
-    pub seek-on : (d : A) → done < length xs → test (getD xs done d) ≡ false → Seeking xs (done + 1)
-    seek-on d l e = record { within = omega arith; rest = sym (next d l ∙ rw e) }
-
-    pub sought-nowhere : length xs ≤ done → 0 ≡ lowest test 1 xs
-    sought-nowhere l =
-        let within = s .within in
-        let all : done ≡ length xs = omega arith in
-        ap (lowest test (done + 1)) (sym (drop-length xs) ∙ ap (λ (n : ℕ). drop n xs) (sym all)) ∙ s .rest
-
-  -- Those counted and those that are left to count are all.
-  pub record Counting (xs : List A) (done counted : ℕ) : Type 0 where
-    pub within : done ≤ length xs
-    pub few : counted ≤ done
-    pub rest : counted + length (keep test (drop done xs)) ≡ length (keep test xs)
-
-  pub count : (xs : List A) → Counting xs 0 0
-  count xs = record { within = omega arith; few = omega arith; rest = omega arith }
-
-  module _ {xs : List A} {done counted : ℕ} (c : Counting xs done counted) where
-    pub count-next : (d : A) {one : ℕ} → done < length xs → one ≡ (if test (getD xs done d) then 1 else 0)
-        → Counting xs (done + 1) (counted + one)
-    count-next d {one} l = go (test (getD xs done d)) refl
-      where
-        go : (b : Bool) → test (getD xs done d) ≡ b → one ≡ (if b then 1 else 0)
-            → Counting xs (done + 1) (counted + one)
-        go true e o =
-            let few = c .few in
-            let rest = rw (drop-cons xs done d l, e) at (c .rest) in
-            record { within = omega arith; few = omega arith; rest = rw (add-one done, o) (omega arith) }
-        go false e o =
-            let few = c .few in
-            let rest = rw (drop-cons xs done d l, e) at (c .rest) in
-            record { within = omega arith; few = omega arith; rest = rw (add-one done, o) (omega arith) }
-
-    pub counted-all : length xs ≤ done → counted ≡ length (keep test xs)
-    counted-all l =
-        let within = c .within in
-        let all : done ≡ length xs = omega arith in
-        let rest = rw (all, drop-length xs) at (c .rest) in
-        omega arith
-
-pub at-most-one : (b : Bool) {n : ℕ} → n ≡ (if b then 1 else 0) → n ≤ 1
-at-most-one true e = omega arith
-at-most-one false e = omega arith
 
 -- ## Rows
 

@@ -16,7 +16,7 @@ use Rattle.store.specs.PlaceLaws.{length-put}
 use Rattle.store.specs.ListLaws.{every-always, every-put}
 use Rattle.store.specs.Layout.{flat, header, total, tablesOffset, edgesOffset}
 use Rattle.store.specs.Layout.{fits, roomFor, words, parse}
-use Rattle.store.specs.Layout.{shapeWords, edgeWords, tableWords, tableWidth, within}
+use Rattle.store.specs.Layout.{shapeWords, edgeWords, tableWords, tableWidth}
 use Rattle.store.specs.Layout.{shapeArea, tableArea, edgeArea}
 use Rattle.store.specs.Rows.{Written, area-length, mul-suc-left}
 use Rattle.store.specs.Records.{shapes-written, edges-written, tables-written, narrow-room}
@@ -44,10 +44,10 @@ pub record Lays (ws : List ℕ) (m : Model) : Type 0 where
 abbrev pub Formed : List ℕ → Type 0
 Formed ws = Lays ws (parse ws)
 
-pub lays-parse : {ws : List ℕ} {m : Model} → Lays ws m → parse ws ≡ m
+lays-parse : {ws : List ℕ} {m : Model} → Lays ws m → parse ws ≡ m
 lays-parse {ws} {m} l = ap parse (l .laid) ∙ parse-words m (l .roomy)
 
-pub lays-formed : {ws : List ℕ} {m : Model} → Lays ws m → Formed ws
+lays-formed : {ws : List ℕ} {m : Model} → Lays ws m → Formed ws
 lays-formed l = rw (lays-parse l) l
 
 pub lays-length : {ws : List ℕ} {m : Model} → Lays ws m → length ws ≡ total (limitsOf m)
@@ -207,10 +207,10 @@ pub record Sizes (m n : Model) : Type 0 where
   pub keys : n .K ≡ m .K
   pub edges : length (n .edges) ≡ length (m .edges)
 
-pub same-sizes : (m : Model) → Sizes m m
+same-sizes : (m : Model) → Sizes m m
 same-sizes m = record { shapes = refl; tables = refl; keys = refl; edges = refl }
 
-pub then-sizes : {m n o : Model} → Sizes m n → Sizes n o → Sizes m o
+then-sizes : {m n o : Model} → Sizes m n → Sizes n o → Sizes m o
 then-sizes a b =
     record {
       shapes = b .shapes ∙ a .shapes;

@@ -11,3 +11,5 @@ pub mod Spots
 pub mod Image
 pub mod Tables
 pub mod FreePlaces
+pub mod Scans
+pub mod Passes

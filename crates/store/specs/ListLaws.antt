@@ -75,7 +75,7 @@ module _ {A : Type 0} (test : A → Bool) where
       rw (h 1 (omega arith) (omega arith))
       (every-make xs d (λ n low high. rw (← (at-tail x xs n d low)) (h (suc n) (omega arith) (omega arith))))
 
-  pub every-set : (xs : List A) (k : ℕ) (y : A) → every test xs ≡ true → test y ≡ true
+  every-set : (xs : List A) (k : ℕ) (y : A) → every test xs ≡ true → test y ≡ true
       → every test (set xs k y) ≡ true
   every-set [] k y e h = refl
   every-set (x ∷ xs) zero y e h = rw h (and-both (test x) e .1)

@@ -81,7 +81,7 @@ edit es rest i old new x h =
     (ap (λ (ws : List ℕ). set ws 0 new)
     (area-write entries-written (old ∷ []) es rest 1 (suc i) x refl (every-always es) (omega arith) h))
 
-pub entry-set : (K : ℕ) (t : Table) (i : ℕ) (x : Entry) → i < length (entriesOf t)
+entry-set : (K : ℕ) (t : Table) (i : ℕ) (x : Entry) → i < length (entriesOf t)
     → edited (tableWords K t) i x (countWord t) ≡ tableWords K (used (set (entriesOf t) i x))
 entry-set K free i x h = absurd (not-suc-le-zero h)
 entry-set K (used es) i x h = edit es _ i _ _ x h ∙ rw length-set
@@ -103,7 +103,7 @@ unused K es h =
 one-more : (es : List Entry) (x : Entry) → length (es ++ x ∷ []) ≡ suc (length es)
 one-more es x = length-append es (x ∷ []) ∙ omega arith
 
-pub entry-added : (K : ℕ) (t : Table) (x : Entry) → freeTable t ≡ false → length (entriesOf t) < K
+entry-added : (K : ℕ) (t : Table) (x : Entry) → freeTable t ≡ false → length (entriesOf t) < K
     → edited (tableWords K t) (length (entriesOf t)) x (suc (countWord t))
     ≡ tableWords K (used (entriesOf t ++ x ∷ []))
 entry-added K free x u h = absurd (true≢false u)
@@ -115,6 +115,33 @@ entry-added K (used es) x u h =
     ∙ rw (set-append-seam es noEntry [] x, one-more es x)
 
 -- ## In the image
+
+-- With an edit of its words the table is any that has the words then.
+pub record Edited (ws after : List ℕ) (t i : ℕ) (x : Entry) (count : ℕ) : Type 0 where
+  pub becomes-any : (y : Table)
+      → edited (tableWords (parse ws .K) (tableAt (parse ws) t)) i x count ≡ tableWords (parse ws .K) y
+      → length (entriesOf y) ≤ parse ws .K → Becomes ws after (putTable (parse ws) t y)
+
+module _ {ws : List ℕ} (f : Formed ws) {t : ℕ} {after : List ℕ} {i : ℕ} {x : Entry} where
+  pub set-becomes : {count : ℕ} → i < length (entriesOf (tableAt (parse ws) t))
+      → count ≡ countWord (tableAt (parse ws) t) → Edited ws after t i x count
+      → Becomes ws after (putTable (parse ws) t (used (set (entriesOf (tableAt (parse ws) t)) i x)))
+  set-becomes h c edit =
+      let its = tableAt (parse ws) t in
+      edit .becomes-any (used (set (entriesOf its) i x)) (rw c (entry-set (parse ws .K) its i x h))
+      (rw length-set (entries-fit f t))
+
+  pub added-becomes : {old new : ℕ} → freeTable (tableAt (parse ws) t) ≡ false
+      → length (entriesOf (tableAt (parse ws) t)) < parse ws .K
+      → old ≡ countWord (tableAt (parse ws) t) → i ≡ old - 1 → new ≡ old + 1 → Edited ws after t i x new
+      → Becomes ws after (putTable (parse ws) t (used (entriesOf (tableAt (parse ws) t) ++ x ∷ [])))
+  added-becomes {old} {new} u h c position next edit =
+      let its = tableAt (parse ws) t in
+      let one = used-count its u in
+      let last : i ≡ length (entriesOf its) = omega arith in
+      let more : new ≡ suc (countWord its) = omega arith in
+      edit .becomes-any (used (entriesOf its ++ x ∷ []))
+      (rw (last, more) (entry-added (parse ws .K) its x u h)) (rw one-more h)
 
 module _
     {ws : List ℕ}
@@ -142,41 +169,15 @@ module _
         let long = ap length its-words ∙ table-long f t in
         (omega arith, omega arith)
 
-    -- An edit of that part makes another table of it.
-    edit-becomes : (i count : ℕ) (x : Entry) (y : Table) {new : List ℕ}
-        → new ≡ edited (midOf a (b - a) ws) i x count
-        → edited (tableWords (parse ws .K) (tableAt (parse ws) t)) i x count ≡ tableWords (parse ws .K) y
-        → length (entriesOf y) ≤ parse ws .K
-        → Becomes ws (putMid a (b - a) ws new) (putTable (parse ws) t y)
-    edit-becomes i count x y n h few =
-        let words = n ∙ ap (λ (part : List ℕ). edited part i x count) its-words ∙ h in
-        let long = tables-written (parse ws .K) .width y (le-leb _ (parse ws .K) few) ∙ sym wide in
-        becomes f (row-put its-row y from to words long) (put-table-sizes (parse ws) t y)
-
-    pub set-becomes : (i : ℕ) (x : Entry) {count : ℕ} {new : List ℕ}
-        → i < length (entriesOf (tableAt (parse ws) t)) → count ≡ countWord (tableAt (parse ws) t)
-        → new ≡ edited (midOf a (b - a) ws) i x count
-        → Becomes ws (putMid a (b - a) ws new)
-        (putTable (parse ws) t (used (set (entriesOf (tableAt (parse ws) t)) i x)))
-    set-becomes i x {count} h c n =
-        let its = tableAt (parse ws) t in
-        edit-becomes i count x (used (set (entriesOf its) i x)) n (rw c (entry-set (parse ws .K) its i x h))
-        (rw length-set (entries-fit f t))
-
-    pub added-becomes : (x : Entry) {i old new : ℕ} {after : List ℕ}
-        → freeTable (tableAt (parse ws) t) ≡ false
-        → length (entriesOf (tableAt (parse ws) t)) < parse ws .K
-        → old ≡ countWord (tableAt (parse ws) t) → i ≡ old - 1 → new ≡ old + 1
-        → after ≡ edited (midOf a (b - a) ws) i x new
-        → Becomes ws (putMid a (b - a) ws after)
-        (putTable (parse ws) t (used (entriesOf (tableAt (parse ws) t) ++ x ∷ [])))
-    added-becomes x {i} {old} {new} u h c position next n =
-        let its = tableAt (parse ws) t in
-        let one = used-count its u in
-        let last : i ≡ length (entriesOf its) = omega arith in
-        let more : new ≡ suc (countWord its) = omega arith in
-        edit-becomes i new x (used (entriesOf its ++ x ∷ [])) n
-        (rw (last, more) (entry-added (parse ws .K) its x u h)) (rw one-more h)
+    pub edit-becomes : (i count : ℕ) (x : Entry) {new : List ℕ} → new ≡ edited (midOf a (b - a) ws) i x count
+        → Edited ws (putMid a (b - a) ws new) t i x count
+    edit-becomes i count x n =
+        record {
+          becomes-any = λ y h few.
+              let words = n ∙ ap (λ (part : List ℕ). edited part i x count) its-words ∙ h in
+              let long = tables-written (parse ws .K) .width y (le-leb _ (parse ws .K) few) ∙ sym wide in
+              becomes f (row-put its-row y from to words long) (put-table-sizes (parse ws) t y);
+        }
 
     -- The words of a free table are zero, and so are those of an empty one but for the first.
     pub started-becomes : tableAt (parse ws) t ≡ free

@@ -39,7 +39,7 @@ unfolding fits
 length-words m e = length-parts m ∙ rw (area-length (tables-written (m .K)) (m .tables) e)
 
 -- No other model has.
-pub fits-words : (m : Model) → length (words m) ≡ total (limitsOf m) → fits m ≡ true
+fits-words : (m : Model) → length (words m) ≡ total (limitsOf m) → fits m ≡ true
 unfolding fits
 fits-words m e =
     let n = length-parts m in

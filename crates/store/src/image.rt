@@ -18,7 +18,7 @@ use slot::KeyPosition;
 ghost use mathlib.Core.Path.{_≡_};
 ghost use mathlib.Core.Bool.{false};
 ghost use mathlib.Core.List.{[], _∷_, _++_};
-ghost use Prim.Native.Nat.{_+_, _*_, _≤_, _<_};
+ghost use Prim.Native.Nat.{_<_};
 ghost use lib.ListN.{length, getD, set};
 ghost use Rattle.store.specs.Model.{limitsOf, shapeAt, putShape, edgeAt, putEdge};
 ghost use Rattle.store.specs.Model.{tableAt, putTable, entriesOf, freeTable, free, used, noEntry};
@@ -26,6 +26,7 @@ ghost use Rattle.store.specs.Model.{freeShape, freeEdge};
 ghost use Rattle.store.specs.Lists.{lowest, keep};
 ghost use Rattle.store.specs.Layout.{tablesOffset, edgesOffset, tableWidth, countWord, tableWords, parse};
 ghost use Rattle.store.specs.Image.{Formed, Place, Becomes};
+ghost use Rattle.store.specs.Tables.{Edited};
 
 const SHAPES: usize = 8;
 
@@ -176,6 +177,19 @@ pub fn get_entry(image: &[u32], t: u32, position: KeyPosition) -> Entry
     read_entry(row(table, ENTRIES, ENTRY_WORDS, position.0 + 1))
 }
 
+// Another entry at a position, and another count word: the words are those of another table.
+fn edit_entry(image: &mut [u32], t: u32, position: KeyPosition, e: Entry, count: u32)
+    requires { ⌜ Formed (now image) ⌝ }
+    requires { ⌜ Place (length (parse (now image) .tables)) t ⌝ }
+    requires { ⌜ position .0 < parse (now image) .K ⌝ }
+    ensures { λ _. ⌜ Edited (now (image .entry)) (now (image .exit)) t (position .0) e count ⌝ }
+{
+    let width = table_width(image);
+    let at = row_at(image, tables(image), width, t);
+    let end = at + width;
+    edit_table(&mut image[at..end], position, e, count);
+}
+
 pub fn set_entry(image: &mut [u32], t: u32, position: KeyPosition, e: Entry)
     requires { ⌜ Formed (now image) ⌝ }
     requires { ⌜ Place (length (parse (now image) .tables)) t ⌝ }
@@ -187,10 +201,7 @@ pub fn set_entry(image: &mut [u32], t: u32, position: KeyPosition, e: Entry)
         ⌝ }
 {
     let count = count_word(image, t);
-    let width = table_width(image);
-    let at = row_at(image, tables(image), width, t);
-    let end = at + width;
-    edit_table(&mut image[at..end], position, e, count);
+    edit_entry(image, t, position, e, count);
 }
 
 pub fn append_entry(image: &mut [u32], t: u32, e: Entry)
@@ -205,10 +216,7 @@ pub fn append_entry(image: &mut [u32], t: u32, e: Entry)
         ⌝ }
 {
     let count = count_word(image, t);
-    let width = table_width(image);
-    let at = row_at(image, tables(image), width, t);
-    let end = at + width;
-    edit_table(&mut image[at..end], KeyPosition(count - 1), e, count + 1);
+    edit_entry(image, t, KeyPosition(count - 1), e, count + 1);
 }
 
 // The words of a free table are zero, so that its count word is all that says that it is in use.

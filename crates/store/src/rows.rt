@@ -60,7 +60,7 @@ pub fn lowest_unused(image: &[u32], area: usize, width: usize, count: u32) -> u3
 }
 
 // A sum of these counts without a branch.
-fn one_if(test: bool) -> u32
+pub fn one_if(test: bool) -> u32
     ensures { λ r. ⌜ r ≡ (if test then 1 else 0) ⌝ }
 {
     if test { 1 } else { 0 }

@@ -20,7 +20,7 @@ use Rattle.theorems.specs.Facts.{Sound}
 use Rattle.theorems.specs.SweepLaws.{shapes-freed, tables-freed}
 use Rattle.theorems.specs.HeldChains.{swept-on-chain}
 use Rattle.sweep.specs.Marks.{marked}
-use Rattle.sweep.specs.Passes.{withShapes, withTables, withEdges}
+use Rattle.store.specs.Passes.{withShapes, withTables, withEdges}
 
 -- ## The passes
 

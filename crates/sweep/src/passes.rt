@@ -27,7 +27,7 @@ ghost use Rattle.rules.specs.Sound.{uses};
 ghost use Rattle.rules.specs.Sweep.{sweepShapes, sweepTables, sweepEdge};
 ghost use Rattle.sweep.specs.Marks.{marked};
 ghost use Rattle.sweep.specs.Users.{AlsoMarks};
-ghost use Rattle.sweep.specs.Passes.{withShapes, withTables, withEdges};
+ghost use Rattle.store.specs.Passes.{withShapes, withTables, withEdges};
 
 fn sweep_shape(image: &mut [u32], marks: &[u8], n: u32)
     requires { ⌜ Formed (now image) ⌝ }

@@ -26,7 +26,8 @@ use Rattle.rules.specs.Trails.{trail}
 use Rattle.rules.specs.Calls.{Call, newRoot, newUnique, insertKey, changeKey, removeKey, changePrototype}
 use Rattle.rules.specs.Calls.{hold, previous, Answer, Given, Reply, Yes, unheld, grant, grantPrevious}
 use Rattle.rules.specs.Calls.{perform, call}
-use Rattle.theorems.specs.Facts.{Used, Sound, shared-used, unique-used}
+use Rattle.rules.specs.InUse.{shared-used}
+use Rattle.theorems.specs.Facts.{Used, Sound, unique-used}
 use Rattle.theorems.specs.Entries.{keys, laid-without-absent}
 use Rattle.theorems.specs.Frame.{Kept, Keeps, kept-used, kept-shared}
 use Rattle.theorems.specs.Holds.{shape-put, grant-keeps}

@@ -28,7 +28,8 @@ use Rattle.rules.specs.Calls.{Call, newRoot, newUnique, insertKey, changeKey, r
 use Rattle.rules.specs.Calls.{hold, release, previous, sweep, lookup, keysInto, prototypeOf, isShared}
 use Rattle.rules.specs.Calls.{transitionsOf, propertiesOf, Answer, Given, Reply, No, Yes, unheld, grant}
 use Rattle.rules.specs.Calls.{slotOf, actionFor, grantPrevious, perform, settle, call}
-use Rattle.theorems.specs.Facts.{Used, Sound, shared-used, shared-not-unique}
+use Rattle.rules.specs.InUse.{shared-used}
+use Rattle.theorems.specs.Facts.{Used, Sound, shared-not-unique}
 use Rattle.theorems.specs.FactsSound.{facts-sound}
 use Rattle.theorems.specs.Frame.{Kept, Keeps, keeps-self, keeps-again, kept-used}
 use Rattle.theorems.specs.Holds.{release-keeps, grant-keeps}

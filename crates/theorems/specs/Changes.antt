@@ -26,7 +26,8 @@ use Rattle.rules.specs.Unique.{insertUnique, removeUnique, changeUnique, protot
 use Rattle.rules.specs.Unique.{removed, rebased}
 use Rattle.rules.specs.Sweep.{held}
 use Rattle.rules.specs.Calls.{unheld}
-use Rattle.theorems.specs.Facts.{Used, GoodTable, Sound, shared-used, unique-used, shared-not-unique}
+use Rattle.rules.specs.InUse.{shared-used}
+use Rattle.theorems.specs.Facts.{Used, GoodTable, Sound, unique-used, shared-not-unique}
 use Rattle.theorems.specs.Frame.{Keeps, keeps-self, keeps-fewer, keeps-again, kept-used}
 use Rattle.theorems.specs.Taken.{bind-passed}
 use Rattle.theorems.specs.Grow.{FreshShape, Fresh, fresh-keeps, fresh-root, fresh-unique}

@@ -24,7 +24,8 @@ use Rattle.rules.specs.Sound.{stepOf, goodLabel}
 use Rattle.rules.specs.Sweep.{deadened}
 use Rattle.rules.specs.Trails.{madeBy}
 use Rattle.theorems.specs.Facts.{Used, ChildSound, ShapeSound, GoodTable, EdgeSound, Alike, Sound}
-use Rattle.theorems.specs.Facts.{shared-used, used-place}
+use Rattle.rules.specs.InUse.{shared-used}
+use Rattle.theorems.specs.Facts.{used-place}
 use Rattle.theorems.specs.TestsSay.{edge-to}
 use Rattle.theorems.specs.Entries.{leads-on}
 use Rattle.theorems.specs.Frame.{Longer, Keeps, longer-same, longer-entries}

@@ -278,7 +278,7 @@ module _ (m : Model) (sound : Sound m) where
 
   -- Any list that stands for a held shape stands for it after a call, unless the call changes that unique:
   -- two objects that have one shape may each keep a list of their own.
-  pub others-stand : (c : Call) (k : ℕ) (ps : Properties) → HeldAt m k
+  others-stand : (c : Call) (k : ℕ) (ps : Properties) → HeldAt m k
       → (eqb k (changedBy c) && unique (shapeAt m k)) ≡ false → StandsFor m k ps
       → StandsFor (call m c .0) k ps
   others-stand c k ps isHeld other s =

@@ -43,7 +43,7 @@ good-keys es h =
 pub good-slots : (es : List Entry) → goodEntries es ≡ true → slotsFrom 0 es ≡ true
 good-slots es h = and-both (distinct (keys es) && every goodEntry es) h .1
 
-pub make-good : {es : List Entry} → GoodKeys es → slotsFrom 0 es ≡ true → goodEntries es ≡ true
+make-good : {es : List Entry} → GoodKeys es → slotsFrom 0 es ≡ true → goodEntries es ≡ true
 make-good k s = both-and (both-and (k .differ) (k .each)) s
 
 pub has-keys : (k : ℕ) (es : List Entry) → has k es ≡ any (eqb k) (keys es)
@@ -85,7 +85,7 @@ rest-slots n e es h = and-both (eqb (e .slot .0) n) h .1
 
 -- ## A slot index is the sum of the widths before it
 
-pub slot-from : (n : ℕ) (es : List Entry) → slotsFrom n es ≡ true → (p : ℕ) → p < length es
+slot-from : (n : ℕ) (es : List Entry) → slotsFrom n es ≡ true → (p : ℕ) → p < length es
     → getD es p noEntry .slot .0 ≡ n + widths (take p es)
 slot-from n [] h p l = absurd (not-suc-le-zero l)
 slot-from n (e ∷ es) h zero l = omega (arith, first-slot n e es h)
@@ -98,7 +98,7 @@ slot-at es h p l = slot-from 0 es (good-slots es h) p l ∙ omega arith
 
 -- ## The first entries
 
-pub absent-take : (k n : ℕ) (es : List Entry) → has k es ≡ false → has k (take n es) ≡ false
+absent-take : (k n : ℕ) (es : List Entry) → has k es ≡ false → has k (take n es) ≡ false
 absent-take k zero es h = refl
 absent-take k (suc n) [] h = refl
 absent-take k (suc n) (e ∷ es) h =

@@ -20,6 +20,7 @@ use Rattle.store.specs.declared.Edge.{Edge}
 use Rattle.rules.specs.Shapes.{shared, unique, isRoot, isChild, tableOf, entries}
 use Rattle.rules.specs.Steps.{edgeKind}
 use Rattle.rules.specs.Sound.{goodEntries, stepOf, leads, goodLabel}
+use Rattle.rules.specs.InUse.{used-table-inside}
 use Rattle.rules.specs.Sweep.{deadened}
 
 -- ## A shape in use
@@ -121,9 +122,6 @@ pub record Sound (m : Model) : Type 0 where
 
 -- ## Small consequences
 
-pub shared-used : (s : Shape) → shared s ≡ true → freeShape s ≡ false
-shared-used s h = ap (λ (x : ℕ). eqb x 0) (eqb-true (s .state) 1 h)
-
 pub unique-used : (s : Shape) → unique s ≡ true → freeShape s ≡ false
 unique-used s h = ap (λ (x : ℕ). eqb x 0) (eqb-true (s .state) 2 h)
 
@@ -139,12 +137,6 @@ pub used-place-inside : (m : Model) (n : ℕ) → Used m n → Place (length (m 
 unfolding shapeAt
 used-place-inside m n u =
     let inside = at-inside freeShape (m .shapes) n noShape refl u in
-    record { low = inside .0; high = inside .1 }
-
-pub used-table-inside : (m : Model) (t : ℕ) → freeTable (tableAt m t) ≡ false → Place (length (m .tables)) t
-unfolding tableAt
-used-table-inside m t u =
-    let inside = at-inside freeTable (m .tables) t free refl u in
     record { low = inside .0; high = inside .1 }
 
 pub used-table : (t : Table) → freeTable t ≡ false → t ≡ used (entriesOf t)

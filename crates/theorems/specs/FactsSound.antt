@@ -20,7 +20,8 @@ use Rattle.rules.specs.Shapes.{shared, unique, isRoot, isChild, tableOf}
 use Rattle.rules.specs.Sound.{inRange, tableInUse, freeZero, tablesGood, users, tablesUsed, countsFit}
 use Rattle.rules.specs.Sound.{rootsZero, edgesTo, childrenLinked, childrenStepped, edgesDiffer, edgesGood}
 use Rattle.rules.specs.Sound.{transitionsLimited, holdsLimited, uniquesZero, modelSentences, soundModel}
-use Rattle.theorems.specs.Facts.{Used, Sound, shared-used, used-place}
+use Rattle.rules.specs.InUse.{shared-used}
+use Rattle.theorems.specs.Facts.{Used, Sound, used-place}
 use Rattle.theorems.specs.TestsSay.{shape-each, table-each, edge-each, user-counts, alone-counts}
 use Rattle.theorems.specs.TestsSay.{edge-to, places-differ}
 

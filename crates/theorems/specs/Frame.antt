@@ -25,7 +25,8 @@ use Rattle.rules.specs.Sound.{goodLabel}
 use Rattle.rules.specs.Sweep.{deadened}
 use Rattle.rules.specs.Trails.{madeBy, trailOf, trail, root}
 use Rattle.theorems.specs.Facts.{Used, GoodWords, InLimits, ChildSound, ShapeSound, User, GoodTable}
-use Rattle.theorems.specs.Facts.{LeadsTo, EdgeSound, Alike, Sound, shared-used, unique-used, used-place}
+use Rattle.rules.specs.InUse.{shared-used}
+use Rattle.theorems.specs.Facts.{LeadsTo, EdgeSound, Alike, Sound, unique-used, used-place}
 use Rattle.theorems.specs.Facts.{transitions-child}
 use Rattle.theorems.specs.TestsSay.{edge-to}
 
@@ -295,7 +296,7 @@ module _ (i j : Model) (P : ℕ → Type 0) (sound : Sound i) (c : Change i j P)
       go (inl e) = rw (ap (λ (l : Limits). l .K) (c .sameLimits)) (sound .tables t es e)
       go (inr g) = g
 
-  pub change-sound : Sound j
+  change-sound : Sound j
   change-sound =
       record {
         shapes = a-shape;
@@ -351,7 +352,7 @@ module _ (i j : Model) (P : ℕ → Type 0) (sound : Sound i) (c : Change i j P)
       let b = before n count p e in
       rw (previous-same n p, back-stays count (shapeAt i n .previous) (b .itsPrevious) (b .oneLess))
 
-  pub change-kept : (n : ℕ) → P n → Kept i j n
+  change-kept : (n : ℕ) → P n → Kept i j n
   unfolding trail chain
   change-kept n p =
       let count : shapeAt j n .transitions ≡ shapeAt i n .transitions
@@ -365,10 +366,10 @@ module _ (i j : Model) (P : ℕ → Type 0) (sound : Sound i) (c : Change i j P)
 
 -- ## Kept
 
-pub kept-self : (i : Model) (n : ℕ) → Kept i i n
+kept-self : (i : Model) (n : ℕ) → Kept i i n
 kept-self i n = record { sameCore = refl; sameEntries = refl; sameTrail = refl; sameChain = refl }
 
-pub kept-again : {i j k : Model} {n : ℕ} → Kept i j n → Kept j k n → Kept i k n
+kept-again : {i j k : Model} {n : ℕ} → Kept i j n → Kept j k n → Kept i k n
 kept-again a b =
     record {
       sameCore = b .sameCore ∙ a .sameCore;

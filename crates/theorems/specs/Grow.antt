@@ -24,7 +24,8 @@ use Rattle.rules.specs.Shapes.{shared, unique, isChild, entries, rootShape, uni
 use Rattle.rules.specs.Refusals.{ok, place}
 use Rattle.rules.specs.Steps.{Placed, copyTo, fresh}
 use Rattle.theorems.specs.Facts.{Used, GoodWords, InLimits, ShapeSound, User, GoodTable, EdgeSound}
-use Rattle.theorems.specs.Facts.{Alike, Sound, shared-used, unique-used, used-place}
+use Rattle.rules.specs.InUse.{shared-used}
+use Rattle.theorems.specs.Facts.{Alike, Sound, unique-used, used-place}
 use Rattle.theorems.specs.Frame.{core, Longer, ShapeCase, EdgeCase, made, Change, Keeps, change-keeps}
 use Rattle.theorems.specs.Frame.{longer-same, previous-used, same-edge, old-shape, same-user}
 use Rattle.theorems.specs.Taken.{bind-passed, FreePlace, place-passed}
@@ -115,7 +116,7 @@ module _ (m j : Model) (sound : Sound m) (c t : ℕ) (es : List Entry) (g : Grow
           let none = ap (λ (y : Edge). y .child) (sound .freeEdges e (x .wasFree)) in
           absurd (used-place m k u (sym h ∙ none))
 
-  pub growth-change : Change m j (Used m)
+  growth-change : Change m j (Used m)
   growth-change =
       record {
         sameLimits = g .sameLimits;

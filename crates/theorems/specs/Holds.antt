@@ -17,7 +17,8 @@ use Rattle.rules.specs.Shapes.{withHolds}
 use Rattle.rules.specs.Refusals.{ok}
 use Rattle.rules.specs.Calls.{Answer, Given, grant, releaseOne}
 use Rattle.rules.specs.Settled.{guard-passed, same-given}
-use Rattle.theorems.specs.Facts.{Used, InLimits, Sound, shared-used}
+use Rattle.rules.specs.InUse.{shared-used}
+use Rattle.theorems.specs.Facts.{Used, InLimits, Sound}
 use Rattle.theorems.specs.Frame.{core, Change, Keeps, change-keeps, longer-same, previous-used}
 use Rattle.theorems.specs.Frame.{same-edge, old-shape, same-user}
 
@@ -77,7 +78,7 @@ module _ (m : Model) (sound : Sound m) (n : ℕ) (u : Used m n) where
     core-put = change-keeps sound core-change
 
   -- Other holds, none where there are 1,024 transitions.
-  pub holds-put : (h : ℕ) → h ≤ 65535 → (shapeAt m n .transitions ≡ 1024 → h ≡ 0)
+  holds-put : (h : ℕ) → h ≤ 65535 → (shapeAt m n .transitions ≡ 1024 → h ≡ 0)
       → Keeps m (putShape m n (withHolds (shapeAt m n) h)) (Used m)
   holds-put h l none =
       let old = sound .shapes n u .limits in

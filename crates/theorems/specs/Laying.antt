@@ -26,7 +26,8 @@ use Rattle.rules.specs.Refusals.{Got, ok, _>>=_, place}
 use Rattle.rules.specs.Steps.{Step, insert, configure, prototype, stepEntries, added, edgeOf, Placed, copyTo}
 use Rattle.rules.specs.Steps.{childTable, childShape, grow}
 use Rattle.rules.specs.Settled.{guard-passed, same-given}
-use Rattle.theorems.specs.Facts.{Used, GoodTable, Sound, shared-used, shared-not-unique, used-table}
+use Rattle.rules.specs.InUse.{shared-used}
+use Rattle.theorems.specs.Facts.{Used, GoodTable, Sound, shared-not-unique, used-table}
 use Rattle.theorems.specs.Entries.{good-take, good-appended, length-appended, attributes-take}
 use Rattle.theorems.specs.Entries.{good-configured, length-configured, take-configured}
 use Rattle.theorems.specs.Frame.{longer-same}

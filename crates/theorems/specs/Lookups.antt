@@ -30,7 +30,7 @@ pub record OwnEntry (m : Model) (s : Shape) (e : Entry) : Type 0 where
 
 module _ (m : Model) (s : Shape) (k : ℕ) where
   -- What is found is the shape's own, and has that key.
-  pub found-own : (e : Entry) → found k (entries m s) ≡ some e → OwnEntry m s e × (e .key ≡ k)
+  found-own : (e : Entry) → found k (entries m s) ≡ some e → OwnEntry m s e × (e .key ≡ k)
   found-own e h = go (first-or-none (isKey k) noEntry (entries m s))
     where
       go : FirstOrNone (isKey k) noEntry (entries m s) → OwnEntry m s e × (e .key ≡ k)

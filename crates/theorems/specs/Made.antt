@@ -23,7 +23,8 @@ use Rattle.rules.specs.Steps.{stepEntries, stepPrototype}
 use Rattle.rules.specs.Sound.{slotsFrom, goodEntries, stepOf, goodLabel}
 use Rattle.rules.specs.Sweep.{deadened}
 use Rattle.rules.specs.Trails.{madeBy}
-use Rattle.theorems.specs.Facts.{Sound, shared-used, used-place, used-table, transitions-child}
+use Rattle.rules.specs.InUse.{shared-used}
+use Rattle.theorems.specs.Facts.{Sound, used-place, used-table, transitions-child}
 use Rattle.theorems.specs.Facts.{Used, GoodTable}
 use Rattle.theorems.specs.FactsSound.{its-edge}
 use Rattle.theorems.specs.Frame.{Kept}

@@ -12,7 +12,8 @@ use Rattle.store.specs.declared.Edge.{Edge}
 use Rattle.rules.specs.Refusals.{ok}
 use Rattle.rules.specs.Sweep.{deadened}
 use Rattle.rules.specs.Steps.{Step, edgeOf, edgeKind, stepEntries, Placed, childShape, counted, make}
-use Rattle.theorems.specs.Facts.{Used, Alike, Sound, shared-used, used-place}
+use Rattle.rules.specs.InUse.{shared-used}
+use Rattle.theorems.specs.Facts.{Used, Alike, Sound, used-place}
 use Rattle.theorems.specs.Frame.{Keeps, keeps-again, kept-used, kept-shared}
 use Rattle.theorems.specs.Prunes.{counted-keeps, FewerEdges, counted-fewer}
 use Rattle.theorems.specs.Child.{Legal, Ready, Grown}

@@ -15,7 +15,8 @@ use Rattle.store.specs.declared.Counters.{Counters}
 use Rattle.rules.specs.Shapes.{shared, withCounters}
 use Rattle.rules.specs.Steps.{dead, prune, counter, setCounter, putCounter, withEdges, pruned, counted}
 use Rattle.rules.specs.FirstLaws.{prune-at, prune-live}
-use Rattle.theorems.specs.Facts.{Used, InLimits, Sound, shared-used, shared-not-unique, used-place}
+use Rattle.rules.specs.InUse.{shared-used}
+use Rattle.theorems.specs.Facts.{Used, InLimits, Sound, shared-not-unique, used-place}
 use Rattle.theorems.specs.Frame.{EdgeCase, vacant, Change, Keeps, change-keeps, keeps-again, kept-used}
 use Rattle.theorems.specs.Frame.{longer-same, previous-used, same-edge, old-shape, same-user}
 use Rattle.theorems.specs.Holds.{core-put}
@@ -55,7 +56,7 @@ module _ (m : Model) (sound : Sound m) (n kind : ℕ) where
         edges = an-edge;
       }
 
-  pub prune-keeps : Keeps m less (Used m)
+  prune-keeps : Keeps m less (Used m)
   prune-keeps = change-keeps sound prune-change
 
 -- ## Counters
@@ -75,7 +76,7 @@ counter-low kind v c l p q = go (eqb kind 0)
     go false = (p, l)
 
 module _ (m : Model) (sound : Sound m) (n kind : ℕ) (isShared : shared (shapeAt m n) ≡ true) where
-  pub counter-keeps : (v : ℕ) → v ≤ 255 → Keeps m (putCounter m n kind v) (Used m)
+  counter-keeps : (v : ℕ) → v ≤ 255 → Keeps m (putCounter m n kind v) (Used m)
   counter-keeps v l =
       let s = shapeAt m n in
       let u = shared-used s isShared in
@@ -138,7 +139,7 @@ module _ (m : Model) (n kind : ℕ) where
   unfolding pruned putShape edgeAt
   pruned-edge e = prune-at n kind (m .edges) e
 
-  pub pruned-fewer : FewerEdges m (pruned m n kind)
+  pruned-fewer : FewerEdges m (pruned m n kind)
   pruned-fewer e = go (either (dead n kind (edgeAt m e)))
     where
       go : Decided (dead n kind (edgeAt m e))

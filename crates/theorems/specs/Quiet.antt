@@ -74,7 +74,7 @@ Quiet m g = (y : Placed) → g ≡ ok y → SameHolds m (y .0)
 
 -- ## One record put
 
-pub put-holds : (m : Model) (n : ℕ) (s : Shape) → holdsOf s ≡ holdsAt m n → SameHolds m (putShape m n s)
+put-holds : (m : Model) (n : ℕ) (s : Shape) → holdsOf s ≡ holdsAt m n → SameHolds m (putShape m n s)
 unfolding shapeAt putShape
 put-holds m n s h k = go (put-or-not (m .shapes) n s noShape k)
   where

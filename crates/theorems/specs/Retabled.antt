@@ -17,7 +17,8 @@ use Rattle.store.specs.declared.Shape.{Shape}
 use Rattle.store.specs.declared.Entry.{Entry}
 use Rattle.rules.specs.Shapes.{shared, unique, entries}
 use Rattle.theorems.specs.Facts.{Used, GoodWords, InLimits, ShapeSound, User, GoodTable, Sound}
-use Rattle.theorems.specs.Facts.{shared-used, unique-used, shared-not-unique, child-shared}
+use Rattle.rules.specs.InUse.{shared-used}
+use Rattle.theorems.specs.Facts.{unique-used, shared-not-unique, child-shared}
 use Rattle.theorems.specs.Holds.{shape-put}
 use Rattle.theorems.specs.Grow.{whole-entries, FreshShape}
 use Rattle.theorems.specs.Frame.{core, longer-same, ShapeCase, stays, vacant, made, Change, Keeps}

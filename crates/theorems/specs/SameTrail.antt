@@ -136,7 +136,7 @@ module _ (m : Model) (sound : Sound m) where
     unfolding trail
     trail-before = rw (e, less)
 
-    pub chain-before : chain m n ≡ n ∷ chain m (previousAt m n)
+    chain-before : chain m n ≡ n ∷ chain m (previousAt m n)
     unfolding chain
     chain-before = rw (e, less)
 

@@ -21,7 +21,8 @@ use Rattle.rules.specs.Steps.{rollback, removeShared, changeShared}
 use Rattle.rules.specs.Sound.{goodLabel}
 use Rattle.rules.specs.Trails.{trail, root}
 use Rattle.rules.specs.Settled.{same-given}
-use Rattle.theorems.specs.Facts.{Used, Sound, shared-used}
+use Rattle.rules.specs.InUse.{shared-used}
+use Rattle.theorems.specs.Facts.{Used, Sound}
 use Rattle.theorems.specs.Frame.{Keeps, keeps-self, keeps-again, kept-used, kept-root}
 use Rattle.theorems.specs.Taken.{bind-passed}
 use Rattle.theorems.specs.Stepped.{step-took}
@@ -122,7 +123,7 @@ module _ (m : Model) (sound : Sound m) (n : ℕ) (isShared : SharedAt m n) where
 
 -- ## Steps in a row
 
-pub steps-led : (ts : List Step) (m : Model) → Sound m → (n : ℕ) → SharedAt m n
+steps-led : (ts : List Step) (m : Model) → Sound m → (n : ℕ) → SharedAt m n
     → LegalInTurn ts (entriesAt m n) → transitionsAt m n + length ts ≤ 1024
     → (y : Placed) → steps ts m n ≡ ok y → Led m n ts y
 unfolding steps

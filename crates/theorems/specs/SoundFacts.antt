@@ -1,15 +1,14 @@
 -- What the test of soundness says, as facts: `sound-facts`.
 -- Assumes nothing.
-use mathlib.Core.Bool.{Bool, true, false, _&&_, _||_, not, false≢true}
+use mathlib.Core.Bool.{true, false, _||_, not}
 use mathlib.Core.List.{List, [], _∷_}
 use mathlib.Core.Logic.{_⊎_, inl, inr, _≢_}
 use mathlib.Core.Path.{_≡_, refl}
 use Prim.Native.Nat.{ℕ, _+_, _≤_}
 use native.Mathlib.Omega.{arith}
-use borrow.Author.Tests.{eqb-true, eqb-false, eq-eqb, ne-eqb, leb-true, le-leb, not-true}
+use borrow.Author.Tests.{eqb-true, eqb-false, eq-eqb, ne-eqb, leb-true, le-leb}
 use lib.Dec.{eqb, leb, ltb}
 use lib.ListN.{length}
-use Rattle.slot.specs.If.{if_then_else_}
 use Rattle.store.specs.Lists.{at, every, zeros}
 use Rattle.store.specs.Model.{free, used, Model, noCounters, noShape, noEdge, freeShape, freeTable, freeEdge}
 use Rattle.store.specs.Model.{shapeAt, tableAt, edgeAt}
@@ -19,15 +18,17 @@ use Rattle.store.specs.ListLaws.{either, zeros→replicate}
 use Rattle.store.specs.declared.Shape.{Shape}
 use Rattle.store.specs.declared.Entry.{Entry}
 use Rattle.store.specs.declared.Edge.{Edge}
-use Rattle.rules.specs.Shapes.{unique, isRoot, isChild, tableOf}
+use Rattle.rules.specs.Shapes.{unique, isRoot, isChild}
 use Rattle.rules.specs.Steps.{edgeKind}
-use Rattle.rules.specs.Sound.{eachShape, eachTable, inRange, tableInUse, freeZero, tablesGood, users}
-use Rattle.rules.specs.Sound.{tablesUsed, countsFit, rootsZero, childrenLinked, stepOf, childrenStepped}
+use Rattle.rules.specs.Sound.{eachTable, inRange, freeZero, tablesGood, users}
+use Rattle.rules.specs.Sound.{tablesUsed, rootsZero, childrenLinked, stepOf, childrenStepped}
 use Rattle.rules.specs.Sound.{edgesDiffer, goodChild, edgesGood, transitionsLimited, holdsLimited}
 use Rattle.rules.specs.Sound.{uniquesZero, modelSentences, soundModel}
 use Rattle.theorems.specs.Facts.{Used, RootZero, UniqueZero, GoodWords, InLimits, ChildSound, User}
 use Rattle.theorems.specs.Facts.{GoodTable, LeadsTo, EdgeSound, Alike, Sound, used-place, used-table}
-use Rattle.theorems.specs.TestsSay.{each-shape, each-table, each-edge, zero-shape, zero-edge, a-user}
+use Rattle.rules.specs.InUse.{each-shape, each-table, each-edge, shape-ranges, edge-ranges, table-in-use}
+use Rattle.rules.specs.InUse.{count-fits}
+use Rattle.theorems.specs.TestsSay.{zero-shape, zero-edge, a-user}
 use Rattle.theorems.specs.TestsSay.{one-user, one-edge, differ-places}
 
 -- ## A shape's own words
@@ -63,42 +64,15 @@ unique-zero s e =
 
 module _ (m : Model) where
   -- What each sentence says of a shape in use.
-  range-says : inRange m ≡ true → (n : ℕ) → Used m n → (shapeAt m n .state ≤ 2) × (shapeAt m n .step ≤ 2)
-  unfolding inRange
-  range-says e n u =
-      let s = shapeAt m n in
-      let p = and-both _ (and-both _ (and-both _ (each-shape m _ (and-both _ e .0) n u) .0) .0) in
-      (leb-true (s .state) 2 (p .0), leb-true (s .step) 2 (p .1))
-
-  in-use-says : tableInUse m ≡ true → (n : ℕ) → Used m n → freeTable (tableAt m (shapeAt m n .table)) ≡ false
-  unfolding tableInUse
-  in-use-says e n u = not-true (freeTable (tableAt m (shapeAt m n .table))) (each-shape m _ e n u)
-
-  counts-says : countsFit m ≡ true → (n : ℕ) → Used m n
-      → (shapeAt m n .properties ≤ length (tableOf m (shapeAt m n)))
-      × (unique (shapeAt m n) ≡ true → shapeAt m n .properties ≡ length (tableOf m (shapeAt m n)))
-  unfolding countsFit
-  counts-says e n u = go (unique (shapeAt m n)) (each-shape m _ e n u)
-    where
-      go : (b : Bool)
-          → (if b then eqb (shapeAt m n .properties) (length (tableOf m (shapeAt m n)))
-          else leb (shapeAt m n .properties) (length (tableOf m (shapeAt m n)))) ≡ true
-          → (shapeAt m n .properties ≤ length (tableOf m (shapeAt m n)))
-          × (b ≡ true → shapeAt m n .properties ≡ length (tableOf m (shapeAt m n)))
-      go true h =
-          let q : shapeAt m n .properties ≡ length (tableOf m (shapeAt m n)) = eqb-true _ _ h in
-          (omega arith, λ z. q)
-      go false h = (leb-true _ _ h, λ z. absurd (false≢true z))
-
   words-say : inRange m ≡ true → rootsZero m ≡ true → transitionsLimited m ≡ true → uniquesZero m ≡ true
       → (n : ℕ) → Used m n → GoodWords (shapeAt m n)
   unfolding rootsZero transitionsLimited uniquesZero
   words-say range roots few uniques n u =
       let s = shapeAt m n in
-      let (state, step) = range-says range n u in
+      let ranges = shape-ranges m range n u in
       record {
-        state = state-is (s .state) state u;
-        step = step;
+        state = state-is (s .state) (ranges .state) u;
+        step = ranges .step;
         transitions = leb-true (s .transitions) 1024 (and-both _ (each-shape m _ few n u) .0);
         root = λ r. root-zero s (not-then (isRoot s) (each-shape m _ roots n u) r);
         unique = λ r. unique-zero s (not-then (unique s) (each-shape m _ uniques n u) r) .0;
@@ -154,20 +128,6 @@ module _ (m : Model) where
       let enough = each-table m _ (and-both _ e .0) t _ (used-table (tableAt m t) u) in
       a-user m t (leb-true 1 (users m t) enough)
 
-  kinds-say : inRange m ≡ true → (e : ℕ) → freeEdge (edgeAt m e) ≡ false → edgeAt m e .kind ≤ 1
-  unfolding inRange
-  kinds-say h e u =
-      let (_, edges) = and-both (eachShape m (λ n s. goodPlaces s)) h in
-      let (kindAndParent, _) = and-both _ (each-edge m _ edges e u) in
-      leb-true (edgeAt m e .kind) 1 (and-both _ kindAndParent .0)
-    where
-      goodPlaces : Shape → Bool
-      goodPlaces s =
-          leb (s .state) 2
-          && leb (s .step) 2
-          && leb (s .previous) (length (m .shapes))
-          && leb (s .table) (length (m .tables))
-
   leads-to : (e : Edge) (c : Shape) → goodChild c e ≡ true → e .child ≢ 0 → LeadsTo e c
   leads-to e c h ne =
       let (p, kind) = and-both _ (or-then (eqb (e .child) 0) h (ne-eqb (e .child) 0 ne)) in
@@ -186,7 +146,7 @@ module _ (m : Model) where
       let (parent, label) = and-both _ p in
       record {
         parentShared = parent;
-        kind = kinds-say range e u;
+        kind = edge-ranges m range e u .kind;
         label = label;
         child = leads-to (edgeAt m e) (shapeAt m (edgeAt m e .child)) child;
       }
@@ -248,9 +208,9 @@ module _ (m : Model) where
             shapes = λ n u. record {
               words = words-say range roots few uniques n u;
               limits = limits-say few held uniques n u;
-              tableUsed = in-use-says inUse n u;
-              countFits = counts-says counts n u .0;
-              uniqueWhole = counts-says counts n u .1;
+              tableUsed = table-in-use m inUse n u;
+              countFits = count-fits m counts n u .0;
+              uniqueWhole = count-fits m counts n u .1;
               uniqueAlone = unique-says its n u;
               child = child-says linked stepped n u;
             };

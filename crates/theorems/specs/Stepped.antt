@@ -25,7 +25,8 @@ use Rattle.rules.specs.Steps.{alike, dead, Placed, pruned, make, along, step}
 use Rattle.rules.specs.Sound.{stepOf}
 use Rattle.rules.specs.Sweep.{deadened}
 use Rattle.rules.specs.Trails.{madeBy}
-use Rattle.theorems.specs.Facts.{Used, Alike, Sound, shared-used, used-place}
+use Rattle.rules.specs.InUse.{shared-used}
+use Rattle.theorems.specs.Facts.{Used, Alike, Sound, used-place}
 use Rattle.theorems.specs.TestsSay.{alike-is, is-alike}
 use Rattle.theorems.specs.FactsSound.{its-edge}
 use Rattle.theorems.specs.Entries.{led-to}

@@ -13,7 +13,8 @@ use Rattle.store.specs.declared.Shape.{Shape}
 use Rattle.store.specs.declared.Entry.{Entry}
 use Rattle.store.specs.declared.Edge.{Edge}
 use Rattle.rules.specs.Shapes.{isChild}
-use Rattle.theorems.specs.Facts.{Used, User, Sound, shared-used, used-place}
+use Rattle.rules.specs.InUse.{shared-used}
+use Rattle.theorems.specs.Facts.{Used, User, Sound, used-place}
 use Rattle.theorems.specs.Frame.{core, ShapeCase, stays, EdgeCase, kept, cut, vacant, Change, Keeps}
 use Rattle.theorems.specs.Frame.{change-keeps, longer-same}
 use Rattle.theorems.specs.SweepLaws.{AfterSweep, EdgeAfterSweep, left, died, gone, Swept, stays-same}

@@ -13,8 +13,8 @@ use Rattle.store.specs.Lists.{at, keep, any, onlyOne, zeros}
 use Rattle.store.specs.Model.{Table, free, used, Model, noShape, noEdge, freeShape, freeEdge, shapeAt}
 use Rattle.store.specs.Model.{tableAt, edgeAt}
 use Rattle.store.specs.Layout.{shapeWords, edgeWords, readShape, readEdge}
-use Rattle.store.specs.ListLaws.{and-both, both-and, or-then, then-or, every-place, every-make}
-use Rattle.store.specs.ListLaws.{every-numbered, numbered-every, not-both, any-place, place-any, keep-any}
+use Rattle.store.specs.ListLaws.{and-both, both-and, or-then, then-or, every-make}
+use Rattle.store.specs.ListLaws.{numbered-every, not-both, any-place, place-any, keep-any}
 use Rattle.store.specs.ListLaws.{any-keep, only-kept, kept-only, zeros→replicate}
 use Rattle.store.specs.declared.Shape.{Shape}
 use Rattle.store.specs.declared.Entry.{Entry}
@@ -26,21 +26,10 @@ use Rattle.theorems.specs.Facts.{Used, User, Alike}
 -- ## Each record in use
 
 module _ (m : Model) where
-  pub each-shape : (test : ℕ → Shape → Bool) → eachShape m test ≡ true
-      → (n : ℕ) → Used m n → test n (shapeAt m n) ≡ true
-  unfolding shapeAt
-  each-shape test e n u =
-      or-then (freeShape (shapeAt m n)) (every-numbered noShape _ (λ k. refl) (m .shapes) e n) u
-
   pub shape-each : (test : ℕ → Shape → Bool) → ((n : ℕ) → Used m n → test n (shapeAt m n) ≡ true)
       → eachShape m test ≡ true
   unfolding shapeAt
   shape-each test h = numbered-every noShape _ (m .shapes) (λ n. then-or (freeShape (shapeAt m n)) (h n))
-
-  pub each-table : (test : ℕ → List Entry → Bool) → eachTable m test ≡ true
-      → (t : ℕ) (es : List Entry) → tableAt m t ≡ used es → test t es ≡ true
-  unfolding tableAt
-  each-table test e t es q = rw q at (every-numbered free (onTable test) (λ k. refl) (m .tables) e t)
 
   pub table-each : (test : ℕ → List Entry → Bool)
       → ((t : ℕ) (es : List Entry) → tableAt m t ≡ used es → test t es ≡ true)
@@ -51,11 +40,6 @@ module _ (m : Model) where
       go : (t : ℕ) (x : Table) → tableAt m t ≡ x → onTable test (t, x) ≡ true
       go t free q = refl
       go t (used es) q = h t es q
-
-  pub each-edge : (test : Edge → Bool) → eachEdge m test ≡ true
-      → (e : ℕ) → freeEdge (edgeAt m e) ≡ false → test (edgeAt m e) ≡ true
-  unfolding edgeAt
-  each-edge test h e u = or-then (freeEdge (edgeAt m e)) (every-place noEdge _ (m .edges) refl h e) u
 
   pub edge-each : (test : Edge → Bool)
       → ((e : ℕ) → freeEdge (edgeAt m e) ≡ false → test (edgeAt m e) ≡ true) → eachEdge m test ≡ true

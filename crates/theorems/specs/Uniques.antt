@@ -183,7 +183,7 @@ module _ (m : Model) (sound : Sound m) (n : ℕ) (isUnique : unique (shapeAt m n
         };
       }
 
-  pub emptied-keeps : (p : ℕ) → Keeps m (emptied m n p) (Others m n)
+  emptied-keeps : (p : ℕ) → Keeps m (emptied m n p) (Others m n)
   emptied-keeps p = retabled-keeps m (emptied m n p) sound n [] (retabled p)
 
   -- "Removal and width change give a new shape", and so does a change of prototype.

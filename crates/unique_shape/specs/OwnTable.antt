@@ -15,7 +15,8 @@ use Rattle.store.specs.declared.Shape.{Shape}
 use Rattle.rules.specs.Shapes.{unique, tableOf, entries}
 use Rattle.rules.specs.Sound.{distinct}
 use Rattle.theorems.specs.Entries.{keys, good-keys}
-use Rattle.theorems.specs.Facts.{Sound, used-place-inside, used-table, used-table-inside}
+use Rattle.rules.specs.InUse.{used-table-inside}
+use Rattle.theorems.specs.Facts.{Sound, used-place-inside, used-table}
 use Rattle.theorems.specs.Uniques.{is-used, whole}
 use Rattle.property_table.specs.Slotted.{Slotted, good-slotted}
 use Rattle.property_table.specs.Copies.{entriesIn}

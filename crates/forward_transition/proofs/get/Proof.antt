@@ -1,20 +1,24 @@
 -- `forward_transition::get` meets its contract.
 -- Assumes nothing.
-use mathlib.Core.Path.{ap}
+use mathlib.Core.Path.{ap, _∙_}
 use Prim.Native.Nat.{_-_}
 use native.Mathlib.Omega.{arith}
 use borrow.Author.Needs.{needs}
 use lib.ListN.{length}
-use Rattle.store.specs.Model.{noEdge, edgeAt}
+use Rattle.store.specs.Model.{noEdge}
 use Rattle.store.specs.Layout.{parse}
 use Rattle.rules.specs.Steps.{alike}
-use Rattle.forward_transition.specs.Loops.{Looking, look, hit, miss, nowhere}
+use Rattle.store.specs.Lists.{first}
+use Rattle.store.specs.Scans.{Scanning, firstScan, scan, stopped, went-on, ended, edge-next}
+use mathlib.Core.Option.{some}
 use Rattle.forward_transition.specs.Transitions.{transitionOf, found-dead, found-live}
 use Rattle.forward_transition.proofs.get.Statement.{statement}
 use Rattle.forward_transition.proofs.get.Tie as tie
 
 abbrev Inv-loop : tie.InvT-loop
-Inv-loop image wanted count passed₀ passed = Looking (alike wanted) (parse image .edges) passed
+Inv-loop image wanted count passed₀ passed =
+    Scanning (firstScan noEdge (alike wanted) (parse image .edges)) passed
+    (first (alike wanted) (parse image .edges))
 
 abbrev μ-loop : tie.MeasureT-loop
 μ-loop image wanted count passed₀ passed = length (parse image .edges) - passed
@@ -23,7 +27,7 @@ edge-count-requires : tie.Need-edge-count-requires Inv-loop μ-loop
 edge-count-requires c κs = search needs
 
 loop-holds : tie.Need-loop-holds Inv-loop μ-loop
-loop-holds c = look _ _
+loop-holds c = scan _ 0 (omega arith)
 
 add-get-edge : tie.Need-add-get-edge Inv-loop μ-loop
 add-get-edge c = search needs
@@ -35,22 +39,32 @@ agree-requires : tie.Need-agree-requires Inv-loop μ-loop
 agree-requires c κs = search needs
 
 returns : tie.Need-returns Inv-loop μ-loop
-unfolding edgeAt
 returns c =
+    let start = c .before .before .before .before .before .before .before .before .before in
+    let edge-count = c .before .before .before .before .before .before .before .edge-count in
+    let loop = c .before .before .before .before .before .before .loop in
+    let loop-test = c .before .before .before .before .before .loop-test in
+    let get-edge = c .before .before .before .before .get-edge in
+    let agree = c .before .before .before .agree in
+    let read = get-edge .ensures ∙ edge-next _ _ in
     found-dead _
-    (hit noEdge (omega arith) (c .before .before .before .before .get-edge .ensures)
-    (c .before .before .before .agree .ensures)
-    (c .before .before .before .before .before .before .loop .inv) (c .before .before .if1 .taken))
-    (c .if2 .taken)
+    (ap some read
+    ∙ stopped (loop .inv) (edge-count .ensures) (loop-test .taken)
+    (agree .ensures ∙ ap (alike (start .args .wanted)) read) (c .before .before .if1 .taken)) (c .if2 .taken)
 
 returns-2 : tie.Need-returns-2 Inv-loop μ-loop
-unfolding edgeAt
 returns-2 c =
+    let start = c .before .before .before .before .before .before .before .before .before in
+    let edge-count = c .before .before .before .before .before .before .before .edge-count in
+    let loop = c .before .before .before .before .before .before .loop in
+    let loop-test = c .before .before .before .before .before .loop-test in
+    let get-edge = c .before .before .before .before .get-edge in
+    let agree = c .before .before .before .agree in
+    let read = get-edge .ensures ∙ edge-next _ _ in
     found-live _
-    (hit noEdge (omega arith) (c .before .before .before .before .get-edge .ensures)
-    (c .before .before .before .agree .ensures)
-    (c .before .before .before .before .before .before .loop .inv) (c .before .before .if1 .taken))
-    (c .if2 .left)
+    (ap some read
+    ∙ stopped (loop .inv) (edge-count .ensures) (loop-test .taken)
+    (agree .ensures ∙ ap (alike (start .args .wanted)) read) (c .before .before .if1 .taken)) (c .if2 .left)
 
 add-passed : tie.Need-add-passed Inv-loop μ-loop
 add-passed c = search needs
@@ -59,13 +73,20 @@ loop-less : tie.Need-loop-less Inv-loop μ-loop
 loop-less c = search needs
 
 loop-again : tie.Need-loop-again Inv-loop μ-loop
-unfolding edgeAt
 loop-again c =
-    miss noEdge (omega arith) (c .before .before .get-edge .ensures) (c .before .agree .ensures)
-    (c .before .before .before .before .loop .inv) (c .if1 .left)
+    let start = c .before .before .before .before .before .before .before in
+    let edge-count = c .before .before .before .before .before .edge-count in
+    let loop = c .before .before .before .before .loop in
+    let loop-test = c .before .before .before .loop-test in
+    let get-edge = c .before .before .get-edge in
+    let agree = c .before .agree in
+    went-on (loop .inv) (edge-count .ensures) (loop-test .taken)
+    (agree .ensures ∙ ap (alike (start .args .wanted)) (get-edge .ensures ∙ edge-next _ _)) (c .if1 .left)
 
 returns-3 : tie.Need-returns-3 Inv-loop μ-loop
-returns-3 c = ap transitionOf (nowhere _ (c .before .loop .inv) (omega arith))
+returns-3 c =
+    ap transitionOf
+    (ended (c .before .loop .inv) (c .before .before .edge-count .ensures) (c .loop-test .left))
 
 pub get-spec : {M : Type 1} → statement M
 get-spec =

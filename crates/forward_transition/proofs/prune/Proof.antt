@@ -1,18 +1,17 @@
 -- `forward_transition::prune` meets its contract.
 -- Assumes nothing.
-use mathlib.Core.Path.{refl}
 use Prim.Native.Nat.{_-_}
 use native.Mathlib.Omega.{arith}
 use borrow.Author.Needs.{needs}
 use lib.ListN.{length}
 use Rattle.store.specs.Layout.{parse}
-use Rattle.forward_transition.specs.Loops.{change, change-done}
-use Rattle.forward_transition.specs.Transitions.{Pruning, prune-next}
+use Rattle.store.specs.Passes.{ofEdges, pass-end}
+use Rattle.forward_transition.specs.Transitions.{Pruning, prune-start, prune-next}
 use Rattle.forward_transition.proofs.prune.Statement.{statement}
 use Rattle.forward_transition.proofs.prune.Tie as tie
 
 abbrev Inv-loop : tie.InvT-loop
-Inv-loop image₀ parent kind count done₀ image done = Pruning parent kind image₀ done image
+Inv-loop image₀ parent kind count done₀ image done = Pruning parent kind image₀ image done
 
 abbrev μ-loop : tie.MeasureT-loop
 μ-loop image₀ parent kind count done₀ image done = length (parse image₀ .edges) - done
@@ -21,7 +20,7 @@ edge-count-requires : tie.Need-edge-count-requires Inv-loop μ-loop
 edge-count-requires c κs = search needs
 
 loop-holds : tie.Need-loop-holds Inv-loop μ-loop
-loop-holds c = change _ _ _ _ _ (c .before .before .before .pre) refl
+loop-holds c = prune-start _ _ (c .before .before .before .pre)
 
 add-free-if-dead : tie.Need-add-free-if-dead Inv-loop μ-loop
 add-free-if-dead c = search needs
@@ -44,7 +43,7 @@ same-length : tie.Need-same-length Inv-loop μ-loop
 same-length c = search needs
 
 returns : tie.Need-returns Inv-loop μ-loop
-returns c = change-done _ _ _ _ _ (c .before .loop .inv) (omega arith)
+returns c = pass-end ofEdges (c .before .loop .inv) (omega arith)
 
 pub prune-spec : {M : Type 1} → statement M
 prune-spec =

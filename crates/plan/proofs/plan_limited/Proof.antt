@@ -4,7 +4,7 @@ use lib.ListN.{drop}
 use Rattle.store.specs.Layout.{parse}
 use Rattle.store.specs.Model.{shapeAt}
 use Rattle.steps.specs.Records.{stepsIn}
-use Rattle.theorems.specs.Facts.{shared-used}
+use Rattle.rules.specs.InUse.{shared-used}
 use Rattle.plan.specs.Along.{found-inside}
 use Rattle.plan.specs.LiveSteps.{followed-used}
 use Rattle.plan.specs.Answers.{plan-refused, conversion-refused, plan-passes}

@@ -2,19 +2,27 @@
 use borrow.Author.Needs.{needs}
 use Prim.Native.Nat.{_-_}
 use Rattle.property_table.specs.Slotted.{byte-at}
-use Rattle.property_table.specs.Lookup.{Looking, look, hit, miss, nowhere}
+use mathlib.Core.Path.{_∙_}
+use native.Mathlib.Omega.{arith}
+use borrow.Author.Tests.{eq-eqb, ne-eqb}
+use denote.Ref.{now}
+use lib.ListN.{take}
+use Rattle.store.specs.Scans.{Scanning, scan, stopped, went-on, ended}
+use Rattle.property_table.specs.Lookup.{lookedUp, lookScan, first-count, key-tested, key-found}
 use Rattle.property_table.specs.Copies.{entriesIn}
 use Rattle.property_table.proofs.lookup.Statement.{statement}
 use Rattle.property_table.proofs.lookup.Tie as tie
 
 abbrev Inv-loop : tie.InvT-loop
-Inv-loop image table count key i₀ i = Looking key count (entriesIn image table) i
+Inv-loop image table count key i₀ i =
+    let es = take count (entriesIn image table) in
+    Scanning (lookScan key es) i (lookedUp key 0 es)
 
 abbrev μ-loop : tie.MeasureT-loop
 μ-loop image table count key i₀ i = count - i
 
 loop-holds : tie.Need-loop-holds Inv-loop μ-loop
-loop-holds c = look
+loop-holds c = scan _ 0 (omega arith)
 
 get-entry-requires : tie.Need-get-entry-requires Inv-loop μ-loop
 get-entry-requires c κs = search needs
@@ -33,7 +41,11 @@ returns c =
     let get-entry = c .before .before .before .get-entry in
     let if1 = c .before .if1 in
     let slot-in = c .slot-in in
-    hit (loop .inv) (pre .1 .1 .0) (loop-test .taken) (get-entry .ensures) (if1 .taken) (slot-in .ensures)
+    let args = c .before .before .before .before .before .before .before .args in
+    let es = entriesIn (now (args .image)) (args .table) in
+    key-found (args .key) es (loop-test .taken) (get-entry .ensures) (slot-in .ensures)
+    ∙ stopped (loop .inv) (first-count es (pre .1 .1 .0)) (loop-test .taken)
+    (key-tested (args .key) es (loop-test .taken) (get-entry .ensures)) (eq-eqb _ _ (if1 .taken))
 
 add-at : tie.Need-add-at Inv-loop μ-loop
 add-at c = search needs
@@ -48,10 +60,17 @@ loop-again c =
     let loop-test = c .before .before .before .loop-test in
     let get-entry = c .before .before .get-entry in
     let if1 = c .if1 in
-    miss (loop .inv) (pre .1 .1 .0) (loop-test .taken) (get-entry .ensures) (if1 .left)
+    let args = c .before .before .before .before .before .before .args in
+    let es = entriesIn (now (args .image)) (args .table) in
+    went-on (loop .inv) (first-count es (pre .1 .1 .0)) (loop-test .taken)
+    (key-tested (args .key) es (loop-test .taken) (get-entry .ensures)) (ne-eqb _ _ (if1 .left))
 
 returns-2 : tie.Need-returns-2 Inv-loop μ-loop
-returns-2 c = nowhere (c .before .loop .inv) (c .before .before .before .pre .1 .1 .0) (c .loop-test .left)
+returns-2 c =
+    let pre = c .before .before .before .pre in
+    let args = c .before .before .before .args in
+    ended (c .before .loop .inv) (first-count (entriesIn (now (args .image)) (args .table)) (pre .1 .1 .0))
+    (c .loop-test .left)
 
 pub lookup-spec : {M : Type 1} → statement M
 lookup-spec =

@@ -19,8 +19,7 @@ returns : tie.Need-returns
 returns c =
     let args = c .before .before .before .args in
     let every-record-passes = c .every-record-passes in
-    let shape-count = c .before .shape-count in
-    rw (shapes-good (parse (now (args .image))), every-record-passes .ensures, shape-count .ensures)
+    rw (shapes-good (parse (now (args .image))), every-record-passes .ensures)
 
 pub shapes-good-spec : {M : Type 1} → statement M
 shapes-good-spec = tie.close (tie.spec shape-count-requires every-record-passes-requires returns)

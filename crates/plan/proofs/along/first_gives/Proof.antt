@@ -1,8 +1,7 @@
 -- `plan::along::first_gives` meets its contract. Assumes nothing.
 use native.Mathlib.Omega.{arith}
 use borrow.Author.Needs.{needs}
-use Rattle.steps.specs.Records.{steps-end}
-use Rattle.plan.specs.Along.{next-step}
+use Rattle.steps.specs.Records.{steps-end, next-step}
 use Rattle.plan.proofs.along.first_gives.Statement.{statement}
 use Rattle.plan.proofs.along.first_gives.Tie as tie
 

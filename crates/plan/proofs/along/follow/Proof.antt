@@ -4,8 +4,8 @@ use native.Mathlib.Omega.{arith}
 use borrow.Author.Needs.{needs}
 use lib.ListN.{length}
 use Rattle.store.specs.Layout.{parse}
-use Rattle.steps.specs.Records.{records, stepsIn, steps-end}
-use Rattle.plan.specs.Along.{next-step, Following, follow-start, follow-end, follow-stop, follow-on}
+use Rattle.steps.specs.Records.{records, stepsIn, steps-end, next-step}
+use Rattle.plan.specs.Along.{Following, follow-start, follow-end, follow-stop, follow-on}
 use Rattle.plan.proofs.along.follow.Statement.{statement}
 use Rattle.plan.proofs.along.follow.Tie as tie
 

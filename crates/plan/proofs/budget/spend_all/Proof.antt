@@ -3,8 +3,7 @@ use Prim.Native.Nat.{_-_}
 use native.Mathlib.Omega.{arith}
 use borrow.Author.Needs.{needs}
 use lib.ListN.{length}
-use Rattle.steps.specs.Records.{records, stepsIn, steps-end}
-use Rattle.plan.specs.Along.{next-step}
+use Rattle.steps.specs.Records.{records, stepsIn, steps-end, next-step}
 use Rattle.plan.specs.Budget.{SpentTo, spend-start, spend-end, spend-refused, spend-on}
 use Rattle.plan.proofs.budget.spend_all.Statement.{statement}
 use Rattle.plan.proofs.budget.spend_all.Tie as tie

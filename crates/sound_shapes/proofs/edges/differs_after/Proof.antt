@@ -1,23 +1,19 @@
 -- `sound_shapes::edges::differs_after` meets its contract. Assumes nothing.
-use denote.Ref.{now}
-use mathlib.Core.Bool.{not}
 use Prim.Native.Nat.{_-_}
-use lib.ListN.{length, drop}
+use lib.ListN.{drop}
 use Rattle.store.specs.Layout.{parse}
-use Rattle.store.specs.Model.{edgeAt}
+use Rattle.store.specs.Model.{noEdge}
 use Rattle.rules.specs.Steps.{alike}
-use Rattle.sound_shapes.specs.Places.{Testing, test-fails, test-on, all-pass}
+use Rattle.store.specs.Scans.{Scanning, noneScan, scan, stopped, went-on, ended, edge-next}
+use mathlib.Core.Path.{ap, _∙_}
 use Rattle.sound_shapes.specs.Tests.{differs}
-use Rattle.sound_shapes.specs.Sentences.{differs-later}
-use Rattle.sound_shapes.specs.Answers.{alike-fails, unlike-passes}
 use borrow.Author.Needs.{needs}
 use Rattle.sound_shapes.proofs.edges.differs_after.Statement.{statement}
 use Rattle.sound_shapes.proofs.edges.differs_after.Tie as tie
 
 abbrev Inv-loop : tie.InvT-loop
 Inv-loop image e n count done₀ done =
-    Testing (λ k. not (alike e (edgeAt (parse image) k))) (length (parse image .edges)) done
-    (differs (drop n (parse image .edges)) e)
+    Scanning (noneScan noEdge (alike e) (parse image .edges)) done (differs (drop n (parse image .edges)) e)
 
 abbrev μ-loop : tie.MeasureT-loop
 μ-loop image e n count done₀ done = count - done
@@ -28,8 +24,7 @@ edge-count-requires c κs = search needs
 loop-holds : tie.Need-loop-holds Inv-loop μ-loop
 loop-holds c =
     let pre = c .before .before .pre in
-    let args = c .before .before .args in
-    record { within = pre .1; rest = differs-later (parse (now (args .image))) (args .e) (args .n) }
+    scan _ _ (pre .1)
 
 add-get-edge : tie.Need-add-get-edge Inv-loop μ-loop
 add-get-edge c = search needs
@@ -49,8 +44,8 @@ returns c =
     let get-edge = c .before .before .get-edge in
     let are-alike = c .before .are-alike in
     let if1 = c .if1 in
-    test-fails _ (loop .inv) (rw (edge-count .ensures) at (loop-test .taken))
-    (alike-fails (args .e) (get-edge .ensures) (are-alike .ensures) (if1 .taken))
+    stopped (loop .inv) (edge-count .ensures) (loop-test .taken)
+    (are-alike .ensures ∙ ap (alike (args .e)) (get-edge .ensures ∙ edge-next _ _)) (if1 .taken)
 
 add-done : tie.Need-add-done Inv-loop μ-loop
 add-done c = search needs
@@ -67,15 +62,15 @@ loop-again c =
     let get-edge = c .before .before .get-edge in
     let are-alike = c .before .are-alike in
     let if1 = c .if1 in
-    test-on _ (loop .inv) (rw (edge-count .ensures) at (loop-test .taken))
-    (unlike-passes (args .e) (get-edge .ensures) (are-alike .ensures) (if1 .left))
+    went-on (loop .inv) (edge-count .ensures) (loop-test .taken)
+    (are-alike .ensures ∙ ap (alike (args .e)) (get-edge .ensures ∙ edge-next _ _)) (if1 .left)
 
 returns-2 : tie.Need-returns-2 Inv-loop μ-loop
 returns-2 c =
     let loop = c .before .loop in
     let edge-count = c .before .before .edge-count in
     let loop-test = c .loop-test in
-    all-pass _ (loop .inv) (rw (edge-count .ensures) at (loop-test .left))
+    ended (loop .inv) (edge-count .ensures) (loop-test .left)
 
 pub differs-after-spec : {M : Type 1} → statement M
 differs-after-spec =

@@ -20,8 +20,8 @@ returns-2 c =
     let if2 = c .if2 in
     bad-attributes (entries (parse (now (args .image))) (args .parent)) (args .e) (if1 .left) (if2 .taken)
 
-is-good-key-requires : tie.Need-is-good-key-requires
-is-good-key-requires c κs = search needs
+good-key-requires : tie.Need-good-key-requires
+good-key-requires c κs = search needs
 
 width-fits-requires : tie.Need-width-fits-requires
 width-fits-requires c κs =
@@ -34,10 +34,10 @@ returns-3 c =
     let args = c .before .before .before .before .before .before .before .args in
     let if1 = c .before .before .before .before .if1 in
     let if2 = c .before .before .if2 in
-    let is-good-key = c .before .is-good-key in
+    let good-key = c .before .good-key in
     let width-fits = c .width-fits in
     label-answer (entries (parse (now (args .image))) (args .parent)) (args .e) (if1 .left) (if2 .left)
-    (is-good-key .ensures) (width-fits .ensures)
+    (good-key .ensures) (width-fits .ensures)
 
 pub label-is-good-spec : {M : Type 1} → statement M
-label-is-good-spec = tie.close (tie.spec returns returns-2 is-good-key-requires width-fits-requires returns-3)
+label-is-good-spec = tie.close (tie.spec returns returns-2 good-key-requires width-fits-requires returns-3)

@@ -1,7 +1,7 @@
 -- `sound_shapes::labels::width_fits` meets its contract. Assumes nothing.
 use Prim.Native.Nat.{_-_}
-use Rattle.rules.specs.Shapes.{entries}
-use Rattle.sound_shapes.specs.Labels.{absent-fits, held-inside, held-answer, entry-attributes}
+use Rattle.sound_shapes.specs.Labels.{absent-fits, held-answer, entry-attributes}
+use Rattle.sound_shapes.specs.Keys.{held-inside}
 use borrow.Author.Needs.{needs}
 use native.Mathlib.Omega.{arith}
 use denote.Ref.{now}
@@ -10,14 +10,15 @@ use Rattle.sound_shapes.proofs.labels.width_fits.Statement.{statement}
 use Rattle.sound_shapes.proofs.labels.width_fits.Tie as tie
 
 place-of-key-requires : tie.Need-place-of-key-requires
-place-of-key-requires c κs = search needs
+place-of-key-requires c κs = let pre = c .before .pre in (pre .0, pre .1 .0 .tabled)
 
 returns : tie.Need-returns
 returns c =
+    let pre = c .before .before .before .pre in
     let args = c .before .before .before .args in
     let place-of-key = c .before .place-of-key in
     let if1 = c .if1 in
-    absent-fits (args .key) (args .attributes) (entries (parse (now (args .image))) (args .s))
+    absent-fits (parse (now (args .image))) (args .s) (pre .1 .0) (args .key) (args .attributes)
     (place-of-key .ensures) (if1 .taken)
 
 sub-t8 : tie.Need-sub-t8
@@ -31,9 +32,12 @@ get-entry-requires c κs =
     let if1 = c .if1 in (
       pre .0,
       (
-        pre .1 .0 .place,
-        held-inside (parse (now (args .image))) (args .s) (pre .1 .0) (args .key)
-            (args .attributes) (place-of-key .ensures) (if1 .left),
+        pre .1 .0 .tabled .table,
+        omega (
+          arith,
+          held-inside (pre .1 .0 .tabled) (args .key) (place-of-key .ensures) (if1 .left),
+          pre .1 .0 .tabled .fits,
+        ),
       ),
     )
 

@@ -1,5 +1,7 @@
 -- `sound_shapes::shapes::shape_is_good` meets its contract. Assumes nothing.
-use Rattle.sound_shapes.specs.Answers.{table-place, table-in-range, free-is-good, no-table}
+use borrow.Author.Tests.{not-true}
+use Rattle.rules.specs.InUse.{used-table-inside}
+use Rattle.sound_shapes.specs.Answers.{table-in-range, free-is-good, no-table}
 use Rattle.sound_shapes.specs.Answers.{fields-answer}
 use mathlib.Core.Path.{sym, _∙_}
 use borrow.Author.Needs.{needs}
@@ -24,7 +26,7 @@ entry-count-requires c κs =
     let pre = c .before .before .before .before .before .before .pre in
     let is-table = c .before .is-table in
     let if2 = c .if2 in
-    (pre .0, table-place _ _ (sym (is-table .ensures) ∙ if2 .taken))
+    (pre .0, used-table-inside _ _ (not-true _ (sym (is-table .ensures) ∙ if2 .taken)))
 
 own-fields-are-good-requires : tie.Need-own-fields-are-good-requires
 own-fields-are-good-requires c κs = search needs

@@ -1,22 +1,19 @@
 -- `sound_steps::steps::children_stepped` meets its contract. Assumes nothing.
-use Rattle.sound_steps.specs.StepLaws.{isStepped, stepped-each}
-use Rattle.sound_steps.specs.Links.{mark-at}
-use Rattle.sound_steps.specs.Scan.{Passing, pass, place-passes, place-fails, places-pass}
-use Rattle.store.specs.Lists.{numbered}
-use Rattle.store.specs.Model.{noShape, shapeAt}
-use borrow.Author.Tests.{not-true, not-false}
+use Rattle.sound_steps.specs.StepLaws.{isStepped}
+use Rattle.sound_steps.specs.Links.{mark-at, Children, child-tested}
+use Rattle.store.specs.Scans.{scan, stopped, went-on, ended}
+use Rattle.rules.specs.Sound.{childrenStepped}
 use denote.Ref.{now}
 use Rattle.store.specs.Layout.{parse}
 use Prim.Native.Nat.{_-_}
 use native.Mathlib.Omega.{arith}
-use mathlib.Core.Path.{sym, _∙_}
 use borrow.Author.Needs.{needs}
 use Rattle.sound_steps.proofs.steps.children_stepped.Statement.{statement}
 use Rattle.sound_steps.proofs.steps.children_stepped.Tie as tie
 
 abbrev Inv-loop : tie.InvT-loop
 Inv-loop image marks count done₀ done =
-    Passing (isStepped (parse image)) (numbered 1 (parse image .shapes)) done
+    Children (parse image) (isStepped (parse image)) done (childrenStepped (parse image))
 
 abbrev μ-loop : tie.MeasureT-loop
 μ-loop image marks count done₀ done = count - done
@@ -28,7 +25,8 @@ shape-count-requires : tie.Need-shape-count-requires Inv-loop μ-loop
 shape-count-requires c κs = search needs
 
 loop-holds : tie.Need-loop-holds Inv-loop μ-loop
-loop-holds c = pass _ _
+unfolding childrenStepped
+loop-holds c = scan _ 0 (omega arith)
 
 add-n : tie.Need-add-n Inv-loop μ-loop
 add-n c = search needs
@@ -62,41 +60,32 @@ is-stepped-requires c κs =
     )
 
 returns : tie.Need-returns Inv-loop μ-loop
-unfolding shapeAt
 returns c =
     let args = c .before .before .before .before .before .before .before .before .args in
     let loop = c .before .before .before .before .loop in
+    let loop-test = c .before .before .before .loop-test in
     let shape-count = c .before .before .before .before .before .shape-count in
     let is-stepped = c .before .is-stepped in
-    let if1 = c .if1 in
-    place-fails noShape (isStepped (parse (now (args .image)))) (parse (now (args .image)) .shapes)
-    (loop .inv) (omega (arith, shape-count .ensures))
-    (sym (is-stepped .ensures) ∙ not-true (is-stepped .result) (if1 .taken))
-    ∙ sym (stepped-each (parse (now (args .image))))
+    let m = parse (now (args .image)) in
+    stopped (loop .inv) (shape-count .ensures) (loop-test .taken)
+    (child-tested m (isStepped m) (loop .done) (is-stepped .ensures)) (c .if1 .taken)
 
 loop-less : tie.Need-loop-less Inv-loop μ-loop
 loop-less c = search needs
 
 loop-again : tie.Need-loop-again Inv-loop μ-loop
-unfolding shapeAt
 loop-again c =
     let args = c .before .before .before .before .before .before .before .before .args in
     let loop = c .before .before .before .before .loop in
+    let loop-test = c .before .before .before .loop-test in
     let shape-count = c .before .before .before .before .before .shape-count in
     let is-stepped = c .before .is-stepped in
-    let if1 = c .if1 in
-    place-passes noShape (isStepped (parse (now (args .image)))) (parse (now (args .image)) .shapes)
-    (loop .inv) (omega (arith, shape-count .ensures))
-    (sym (is-stepped .ensures) ∙ not-false (is-stepped .result) (if1 .left))
+    let m = parse (now (args .image)) in
+    went-on (loop .inv) (shape-count .ensures) (loop-test .taken)
+    (child-tested m (isStepped m) (loop .done) (is-stepped .ensures)) (c .if1 .left)
 
 returns-2 : tie.Need-returns-2 Inv-loop μ-loop
-returns-2 c =
-    let args = c .before .before .before .before .before .args in
-    let loop = c .before .loop in
-    let shape-count = c .before .before .shape-count in
-    places-pass noShape (isStepped (parse (now (args .image)))) (parse (now (args .image)) .shapes)
-    (loop .inv) (omega (arith, shape-count .ensures))
-    ∙ sym (stepped-each (parse (now (args .image))))
+returns-2 c = ended (c .before .loop .inv) (c .before .before .shape-count .ensures) (c .loop-test .left)
 
 pub children-stepped-spec : {M : Type 1} → statement M
 children-stepped-spec =

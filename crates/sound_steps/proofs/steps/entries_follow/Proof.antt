@@ -1,7 +1,6 @@
 -- `sound_steps::steps::entries_follow` meets its contract. Assumes nothing.
 use Rattle.sound_steps.specs.StepLaws.{insert-differs, insert-follows, others-differ, others-follow}
 use Rattle.store.specs.Tables.{entries-fit}
-use Prim.Native.Nat.{_-_}
 use native.Mathlib.Omega.{arith}
 use Rattle.sound_steps.proofs.steps.entries_follow.Statement.{statement}
 use Rattle.sound_steps.proofs.steps.entries_follow.Tie as tie

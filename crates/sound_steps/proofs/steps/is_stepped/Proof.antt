@@ -1,5 +1,5 @@
 -- `sound_steps::steps::is_stepped` meets its contract. Assumes nothing.
-use Rattle.sound_steps.specs.StepLaws.{linked-says, sole, readable, stepped-child}
+use Rattle.sound_steps.specs.StepLaws.{linked-says, sole, shared-tabled, stepped-child}
 use Rattle.sound_steps.specs.Links.{no-child, previous-place}
 use Rattle.rules.specs.Shapes.{shared}
 use Rattle.store.specs.Model.{edgeAt}
@@ -58,10 +58,10 @@ leads-requires c κs =
     let if1 = c .before .before .if1 in (
       pre .0,
       (
-        readable (pre .1 .0) _ (get-shape2 .ensures)
+        shared-tabled (pre .1 .0) _ (get-shape2 .ensures)
             ((linked-says (pre .1 .0) _ (get-shape .ensures)
             (sym (is-child .ensures) ∙ not-false (is-child .result) (if1 .left)) (get-shape2 .ensures)) .0),
-        readable (pre .1 .0) _ (get-shape .ensures)
+        shared-tabled (pre .1 .0) _ (get-shape .ensures)
             (and-both (shared (get-shape .result))
             (sym (is-child .ensures) ∙ not-false (is-child .result) (if1 .left)) .0),
       ),

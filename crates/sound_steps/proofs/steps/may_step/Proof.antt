@@ -1,14 +1,11 @@
 -- `sound_steps::steps::may_step` meets its contract. Assumes nothing.
-use Rattle.sound_steps.specs.StepLaws.{readable-long, key-inside, may-prototype, may-insert}
+use Rattle.sound_steps.specs.StepLaws.{may-prototype, may-insert}
+use Rattle.sound_shapes.specs.Keys.{held-inside, held-read}
 use Rattle.sound_steps.specs.StepLaws.{may-not-configure, may-configure}
-use Rattle.rules.specs.Shapes.{tableOf, entries}
-use Rattle.store.specs.Model.{noEntry}
-use lib.Seq.{getD-take}
+use Rattle.rules.specs.Shapes.{entries}
 use denote.Ref.{now}
 use Rattle.store.specs.Layout.{parse}
-use Prim.Native.Nat.{_-_}
 use native.Mathlib.Omega.{arith}
-use mathlib.Core.Path.{sym, _∙_}
 use borrow.Author.Needs.{needs}
 use Rattle.sound_steps.proofs.steps.may_step.Statement.{statement}
 use Rattle.sound_steps.proofs.steps.may_step.Tie as tie
@@ -16,24 +13,25 @@ use Rattle.sound_steps.proofs.steps.may_step.Tie as tie
 returns : tie.Need-returns
 returns c = may-prototype (c .before .before .args .edge) _ (c .if1 .taken)
 
-place-of-requires : tie.Need-place-of-requires
-place-of-requires c κs = search needs
+place-of-key-requires : tie.Need-place-of-key-requires
+place-of-key-requires c κs = search needs
 
 returns-2 : tie.Need-returns-2
 returns-2 c =
     let args = c .before .before .before .before .args in
-    let place-of = c .before .place-of in
+    let place-of-key = c .before .place-of-key in
     let if2 = c .if2 in
-    may-insert (args .edge) (entries (parse (now (args .image))) (args .p)) (place-of .ensures) (if2 .taken)
+    may-insert (args .edge) (entries (parse (now (args .image))) (args .p)) (place-of-key .ensures)
+    (if2 .taken)
 
 returns-3 : tie.Need-returns-3
 returns-3 c =
     let args = c .before .before .before .before .before .args in
-    let place-of = c .before .before .place-of in
+    let place-of-key = c .before .before .place-of-key in
     let if1 = c .before .before .before .if1 in
     let if2 = c .before .if2 in
     let if3 = c .if3 in
-    may-not-configure (args .edge) (entries (parse (now (args .image))) (args .p)) (place-of .ensures)
+    may-not-configure (args .edge) (entries (parse (now (args .image))) (args .p)) (place-of-key .ensures)
     (if1 .left) (if2 .left) (if3 .taken)
 
 sub-result : tie.Need-sub-result
@@ -43,16 +41,14 @@ get-entry-requires : tie.Need-get-entry-requires
 get-entry-requires c κs =
     let pre = c .before .before .before .before .before .pre in
     let args = c .before .before .before .before .before .args in
-    let place-of = c .before .before .place-of in
+    let place-of-key = c .before .before .place-of-key in
     let if3 = c .if3 in (
       pre .0,
       (
         pre .1 .table,
         omega (
           arith,
-          key-inside (args .edge) (entries (parse (now (args .image))) (args .p)) (place-of .ensures)
-              (if3 .left),
-          readable-long (pre .1),
+          held-inside (pre .1) (args .edge .label) (place-of-key .ensures) (if3 .left),
           pre .1 .fits,
         ),
       ),
@@ -67,7 +63,7 @@ width-requires-2 c κs = search needs
 returns-4 : tie.Need-returns-4
 returns-4 c =
     let args = c .before .before .before .before .before .before .before .before .args in
-    let place-of = c .before .before .before .before .before .place-of in
+    let place-of-key = c .before .before .before .before .before .place-of-key in
     let if1 = c .before .before .before .before .before .before .if1 in
     let if2 = c .before .before .before .before .if2 in
     let if3 = c .before .before .before .if3 in
@@ -75,25 +71,17 @@ returns-4 c =
     let pre = c .before .before .before .before .before .before .before .before .pre in
     let width = c .before .width in
     let width2 = c .width2 in
-    may-configure (args .edge) (entries (parse (now (args .image))) (args .p)) (place-of .ensures)
+    may-configure (args .edge) (entries (parse (now (args .image))) (args .p)) (place-of-key .ensures)
     (if1 .left) (if2 .left) (if3 .left)
-    (get-entry .ensures
-    ∙ sym
-    (getD-take (args .p .properties) (tableOf (parse (now (args .image))) (args .p)) (place-of .result - 1)
-    noEntry
-    (omega (
-      arith,
-      key-inside (args .edge) (entries (parse (now (args .image))) (args .p)) (place-of .ensures)
-          (if3 .left),
-      readable-long (pre .1),
-    )))) (width .ensures) (width2 .ensures)
+    (held-read (pre .1) (args .edge .label) (place-of-key .ensures) (if3 .left) (get-entry .ensures))
+    (width .ensures) (width2 .ensures)
 
 pub may-step-spec : {M : Type 1} → statement M
 may-step-spec =
     tie.close
     (tie.spec
     returns
-    place-of-requires
+    place-of-key-requires
     returns-2
     returns-3
     sub-result

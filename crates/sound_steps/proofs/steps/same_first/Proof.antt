@@ -1,7 +1,7 @@
 -- `sound_steps::steps::same_first` meets its contract. Assumes nothing.
 use Rattle.store.specs.Tables.{entries-fit}
 use borrow.Author.Tests.{not-true, not-false}
-use Rattle.sound_steps.specs.Scan.{pass}
+use Rattle.store.specs.Scans.{scan}
 use Rattle.sound_steps.specs.StepLaws.{Comparing, compare-on, compare-fails, compare-all}
 use Rattle.store.specs.Layout.{parse}
 use Prim.Native.Nat.{_-_}
@@ -17,7 +17,7 @@ abbrev μ-loop : tie.MeasureT-loop
 μ-loop image p s edge configures count done₀ done = count - done
 
 loop-holds : tie.Need-loop-holds Inv-loop μ-loop
-loop-holds c = pass _ _
+loop-holds c = scan _ 0 (omega arith)
 
 get-entry-requires : tie.Need-get-entry-requires Inv-loop μ-loop
 get-entry-requires c κs =

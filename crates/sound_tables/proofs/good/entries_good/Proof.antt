@@ -1,7 +1,7 @@
 -- `sound_tables::good::entries_good` meets its contract. Assumes nothing.
 use Rattle.store.specs.Lists.{every}
-use borrow.Author.Tests.{not-true, not-false}
-use Rattle.sound_tables.specs.Testing.{Every, every-from, test-failed, test-on, tested-all}
+use mathlib.Core.Bool.{not}
+use Rattle.store.specs.Scans.{Scanning, everyScan, scan, stopped, went-on, ended}
 use native.Mathlib.Omega.{arith}
 use Prim.Native.Nat.{_-_}
 use mathlib.Core.Path.{ap, _∙_}
@@ -15,7 +15,7 @@ use Rattle.sound_tables.proofs.good.entries_good.Tie as tie
 abbrev Inv-loop : tie.InvT-loop
 Inv-loop image t count done₀ done =
     let es = entriesOf (tableAt (parse image) t) in
-    Every goodEntry es noEntry count done (every goodEntry es)
+    Scanning (everyScan noEntry goodEntry es) done (every goodEntry es)
 
 abbrev μ-loop : tie.MeasureT-loop
 μ-loop image t count done₀ done = count - done
@@ -24,7 +24,7 @@ entry-count-requires : tie.Need-entry-count-requires Inv-loop μ-loop
 entry-count-requires c κs = search needs
 
 loop-holds : tie.Need-loop-holds Inv-loop μ-loop
-loop-holds c = every-from goodEntry _ noEntry 0 (c .entry-count .ensures) (omega arith)
+loop-holds c = scan _ 0 (omega arith)
 
 get-entry-requires : tie.Need-get-entry-requires Inv-loop μ-loop
 get-entry-requires c κs =
@@ -42,8 +42,9 @@ returns c =
     let good-entry = c .before .good-entry in
     let get-entry = c .before .before .get-entry in
     let if1 = c .if1 in
-    test-failed (loop .inv) (loop-test .taken) (good-entry .ensures ∙ ap goodEntry (get-entry .ensures))
-    (not-true _ (if1 .taken))
+    let entry-count = c .before .before .before .before .before .entry-count in
+    stopped (loop .inv) (entry-count .ensures) (loop-test .taken)
+    (ap not (good-entry .ensures ∙ ap goodEntry (get-entry .ensures))) (if1 .taken)
 
 add-done : tie.Need-add-done Inv-loop μ-loop
 add-done c = search needs
@@ -58,11 +59,12 @@ loop-again c =
     let good-entry = c .before .good-entry in
     let get-entry = c .before .before .get-entry in
     let if1 = c .if1 in
-    test-on (loop .inv) (loop-test .taken) (good-entry .ensures ∙ ap goodEntry (get-entry .ensures))
-    (not-false _ (if1 .left))
+    let entry-count = c .before .before .before .before .before .entry-count in
+    went-on (loop .inv) (entry-count .ensures) (loop-test .taken)
+    (ap not (good-entry .ensures ∙ ap goodEntry (get-entry .ensures))) (if1 .left)
 
 returns-2 : tie.Need-returns-2 Inv-loop μ-loop
-returns-2 c = tested-all (c .before .loop .inv) (c .loop-test .left)
+returns-2 c = ended (c .before .loop .inv) (c .before .before .entry-count .ensures) (c .loop-test .left)
 
 pub entries-good-spec : {M : Type 1} → statement M
 entries-good-spec =

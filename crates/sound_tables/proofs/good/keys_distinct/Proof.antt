@@ -1,19 +1,19 @@
 -- `sound_tables::good::keys_distinct` meets its contract. Assumes nothing.
-use denote.Ref.{now}
-use borrow.Author.Tests.{not-true, not-false}
-use Rattle.sound_tables.specs.Testing.{test-failed, test-on, tested-all}
+use Rattle.rules.specs.Sound.{distinct}
+use Rattle.store.specs.Scans.{Scanning, scan, stopped, went-on, ended}
 use native.Mathlib.Omega.{arith}
 use Prim.Native.Nat.{_-_}
-use mathlib.Core.Path.{sym, _∙_}
 use Rattle.store.specs.Layout.{parse}
 use Rattle.store.specs.Model.{entriesOf, tableAt}
-use Rattle.sound_tables.specs.Good.{keysOf, keys-many, Distinct, distinct-from}
+use Rattle.sound_tables.specs.Good.{keysOf, distinctScan, last-tested}
 use borrow.Author.Needs.{needs}
 use Rattle.sound_tables.proofs.good.keys_distinct.Statement.{statement}
 use Rattle.sound_tables.proofs.good.keys_distinct.Tie as tie
 
 abbrev Inv-loop : tie.InvT-loop
-Inv-loop image t count done₀ done = Distinct (keysOf (entriesOf (tableAt (parse image) t))) count done
+Inv-loop image t count done₀ done =
+    let es = entriesOf (tableAt (parse image) t) in
+    Scanning (distinctScan es) done (distinct (keysOf es))
 
 abbrev μ-loop : tie.MeasureT-loop
 μ-loop image t count done₀ done = count - done
@@ -22,11 +22,7 @@ entry-count-requires : tie.Need-entry-count-requires Inv-loop μ-loop
 entry-count-requires c κs = search needs
 
 loop-holds : tie.Need-loop-holds Inv-loop μ-loop
-loop-holds c =
-    let entry-count = c .entry-count in
-    let args = c .before .before .args in
-    distinct-from _
-    (entry-count .ensures ∙ sym (keys-many (entriesOf (tableAt (parse (now (args .image))) (args .t)))))
+loop-holds c = scan _ 0 (omega arith)
 
 key-is-last-requires : tie.Need-key-is-last-requires Inv-loop μ-loop
 key-is-last-requires c κs =
@@ -40,7 +36,9 @@ returns c =
     let loop-test = c .before .before .loop-test in
     let key-is-last = c .before .key-is-last in
     let if1 = c .if1 in
-    test-failed (loop .inv) (loop-test .taken) (key-is-last .ensures) (not-true _ (if1 .taken))
+    let entry-count = c .before .before .before .before .entry-count in
+    stopped (loop .inv) (entry-count .ensures) (loop-test .taken)
+    (last-tested _ _ (key-is-last .ensures)) (if1 .taken)
 
 add-done : tie.Need-add-done Inv-loop μ-loop
 add-done c = search needs
@@ -54,10 +52,13 @@ loop-again c =
     let loop-test = c .before .before .loop-test in
     let key-is-last = c .before .key-is-last in
     let if1 = c .if1 in
-    test-on (loop .inv) (loop-test .taken) (key-is-last .ensures) (not-false _ (if1 .left))
+    let entry-count = c .before .before .before .before .entry-count in
+    went-on (loop .inv) (entry-count .ensures) (loop-test .taken)
+    (last-tested _ _ (key-is-last .ensures)) (if1 .left)
 
 returns-2 : tie.Need-returns-2 Inv-loop μ-loop
-returns-2 c = tested-all (c .before .loop .inv) (c .loop-test .left)
+returns-2 c =
+    ended (c .before .loop .inv) (c .before .before .entry-count .ensures) (c .loop-test .left)
 
 pub keys-distinct-spec : {M : Type 1} → statement M
 keys-distinct-spec =

@@ -1,12 +1,13 @@
 -- `sound_tables::good::tables_good` meets its contract. Assumes nothing.
 use denote.Ref.{now}
-use borrow.Author.Tests.{not-true, not-false}
+use mathlib.Core.Bool.{not}
+use mathlib.Core.Path.{ap}
 use native.Mathlib.Omega.{arith}
 use Prim.Native.Nat.{_-_}
 use Rattle.rules.specs.Sound.{tablesGood}
 use Rattle.store.specs.Layout.{parse}
 use Rattle.store.specs.Model.{free}
-use Rattle.sound_tables.specs.Testing.{EveryPlace, test-failed, test-on, tested-all}
+use Rattle.store.specs.Scans.{Scanning, placesScan, stopped, went-on, ended}
 use Rattle.sound_tables.specs.Good.{goodTable, table-entries, tables-from}
 use borrow.Author.Needs.{needs}
 use Rattle.sound_tables.proofs.good.tables_good.Statement.{statement}
@@ -14,7 +15,7 @@ use Rattle.sound_tables.proofs.good.tables_good.Tie as tie
 
 abbrev Inv-loop : tie.InvT-loop
 Inv-loop image count done₀ done =
-    EveryPlace goodTable (parse image .tables) free count done (tablesGood (parse image))
+    Scanning (placesScan free goodTable (parse image .tables)) done (tablesGood (parse image))
 
 abbrev μ-loop : tie.MeasureT-loop
 μ-loop image count done₀ done = count - done
@@ -23,7 +24,7 @@ table-count-requires : tie.Need-table-count-requires Inv-loop μ-loop
 table-count-requires c κs = search needs
 
 loop-holds : tie.Need-loop-holds Inv-loop μ-loop
-loop-holds c = tables-from _ (c .table-count .ensures)
+loop-holds c = tables-from _
 
 add-table-good : tie.Need-add-table-good Inv-loop μ-loop
 add-table-good c =
@@ -44,8 +45,9 @@ returns c =
     let args = c .before .before .before .before .before .before .args in
     let table-good = c .before .table-good in
     let if1 = c .if1 in
-    test-failed (loop .inv) (loop-test .taken)
-    (table-entries (parse (now (args .image))) _ (table-good .ensures)) (not-true _ (if1 .taken))
+    let table-count = c .before .before .before .before .table-count in
+    stopped (loop .inv) (table-count .ensures) (loop-test .taken)
+    (ap not (table-entries (parse (now (args .image))) _ (table-good .ensures))) (if1 .taken)
 
 add-done : tie.Need-add-done Inv-loop μ-loop
 add-done c =
@@ -63,11 +65,12 @@ loop-again c =
     let args = c .before .before .before .before .before .before .args in
     let table-good = c .before .table-good in
     let if1 = c .if1 in
-    test-on (loop .inv) (loop-test .taken)
-    (table-entries (parse (now (args .image))) _ (table-good .ensures)) (not-false _ (if1 .left))
+    let table-count = c .before .before .before .before .table-count in
+    went-on (loop .inv) (table-count .ensures) (loop-test .taken)
+    (ap not (table-entries (parse (now (args .image))) _ (table-good .ensures))) (if1 .left)
 
 returns-2 : tie.Need-returns-2 Inv-loop μ-loop
-returns-2 c = tested-all (c .before .loop .inv) (c .loop-test .left)
+returns-2 c = ended (c .before .loop .inv) (c .before .before .table-count .ensures) (c .loop-test .left)
 
 pub tables-good-spec : {M : Type 1} → statement M
 tables-good-spec =

@@ -7,10 +7,10 @@ use Rattle.store.specs.Rows.{length-rows}
 use Rattle.store.specs.Layout.{rows, tidyTable}
 use Prim.Native.Nat.{_-_}
 use Rattle.store.specs.Lists.{every}
-use mathlib.Core.Path.{sym, _∙_}
+use mathlib.Core.Path.{sym, ap, _∙_}
 use lib.ListN.{drop}
-use borrow.Author.Tests.{not-true, not-false}
-use Rattle.sound_tables.specs.Testing.{Every, every-from, test-failed, test-on, tested-all}
+use mathlib.Core.Bool.{not}
+use Rattle.store.specs.Scans.{Scanning, everyScan, scan, stopped, went-on, ended}
 use borrow.Author.Needs.{needs}
 use Rattle.sound_tables.proofs.tidy.tidy_rows.Statement.{statement}
 use Rattle.sound_tables.proofs.tidy.tidy_rows.Tie as tie
@@ -18,13 +18,13 @@ use Rattle.sound_tables.proofs.tidy.tidy_rows.Tie as tie
 abbrev Inv-loop : tie.InvT-loop
 Inv-loop image area width count keys done₀ done =
     let tables = rows width count (drop area image) in
-    Every (tidyTable keys) tables [] count done (every (tidyTable keys) tables)
+    Scanning (everyScan [] (tidyTable keys) tables) done (every (tidyTable keys) tables)
 
 abbrev μ-loop : tie.MeasureT-loop
 μ-loop image area width count keys done₀ done = count - done
 
 loop-holds : tie.Need-loop-holds Inv-loop μ-loop
-loop-holds c = every-from (tidyTable _) _ [] 0 (sym (length-rows _ _ _)) (omega arith)
+loop-holds c = scan _ 0 (omega arith)
 
 add-row : tie.Need-add-row Inv-loop μ-loop
 add-row c = search needs
@@ -46,8 +46,8 @@ returns c =
     let tidy-table = c .before .tidy-table in
     let row = c .before .before .row in
     let if1 = c .if1 in
-    test-failed (loop .inv) (loop-test .taken)
-    (tidy-table .ensures ∙ row-tidy _ _ _ _ _ (loop-test .taken) (row .ensures)) (not-true _ (if1 .taken))
+    stopped (loop .inv) (sym (length-rows _ _ _)) (loop-test .taken)
+    (ap not (tidy-table .ensures ∙ row-tidy _ _ _ _ _ (loop-test .taken) (row .ensures))) (if1 .taken)
 
 add-done : tie.Need-add-done Inv-loop μ-loop
 add-done c = search needs
@@ -62,11 +62,11 @@ loop-again c =
     let tidy-table = c .before .tidy-table in
     let row = c .before .before .row in
     let if1 = c .if1 in
-    test-on (loop .inv) (loop-test .taken)
-    (tidy-table .ensures ∙ row-tidy _ _ _ _ _ (loop-test .taken) (row .ensures)) (not-false _ (if1 .left))
+    went-on (loop .inv) (sym (length-rows _ _ _)) (loop-test .taken)
+    (ap not (tidy-table .ensures ∙ row-tidy _ _ _ _ _ (loop-test .taken) (row .ensures))) (if1 .left)
 
 returns-2 : tie.Need-returns-2 Inv-loop μ-loop
-returns-2 c = tested-all (c .before .loop .inv) (c .loop-test .left)
+returns-2 c = ended (c .before .loop .inv) (sym (length-rows _ _ _)) (c .loop-test .left)
 
 pub tidy-rows-spec : {M : Type 1} → statement M
 tidy-rows-spec =

@@ -1,8 +1,9 @@
 -- `sound_tables::tidy::zero_from` meets its contract. Assumes nothing.
-use Rattle.sound_tables.specs.Testing.{Every, every-from, test-failed, test-on, tested-all}
+use Rattle.store.specs.Scans.{Scanning, everyScan, scan, stopped, went-on, ended}
 use Prim.Native.Nat.{_-_}
 use Rattle.store.specs.Lists.{zeros}
-use mathlib.Core.Path.{refl, sym}
+use mathlib.Core.Bool.{not}
+use mathlib.Core.Path.{refl, sym, ap}
 use lib.ListN.{length, drop}
 use lib.Dec.{eqb}
 use borrow.Author.Tests.{ne-eqb, eq-eqb}
@@ -11,13 +12,13 @@ use Rattle.sound_tables.proofs.tidy.zero_from.Statement.{statement}
 use Rattle.sound_tables.proofs.tidy.zero_from.Tie as tie
 
 abbrev Inv-loop : tie.InvT-loop
-Inv-loop words from done₀ done = Every (eqb 0) words 0 (length words) done (zeros (drop from words))
+Inv-loop words from done₀ done = Scanning (everyScan 0 (eqb 0) words) done (zeros (drop from words))
 
 abbrev μ-loop : tie.MeasureT-loop
 μ-loop words from done₀ done = length words - done
 
 loop-holds : tie.Need-loop-holds Inv-loop μ-loop
-loop-holds c = every-from (eqb 0) _ 0 _ refl (c .pre)
+loop-holds c = scan _ _ (c .pre)
 
 mul-if1 : tie.Need-mul-if1 Inv-loop μ-loop
 mul-if1 c = search needs
@@ -30,7 +31,7 @@ returns c =
     let loop = c .before .before .before .loop in
     let loop-test = c .before .before .loop-test in
     let if1 = c .if1 in
-    test-failed (loop .inv) (loop-test .taken) refl (ne-eqb 0 _ (λ e. if1 .taken (sym e)))
+    stopped (loop .inv) refl (loop-test .taken) refl (ap not (ne-eqb 0 _ (λ e. if1 .taken (sym e))))
 
 add-done : tie.Need-add-done Inv-loop μ-loop
 add-done c = search needs
@@ -43,10 +44,10 @@ loop-again c =
     let loop = c .before .before .before .loop in
     let loop-test = c .before .before .loop-test in
     let if1 = c .if1 in
-    test-on (loop .inv) (loop-test .taken) refl (eq-eqb 0 _ (sym (if1 .left)))
+    went-on (loop .inv) refl (loop-test .taken) refl (ap not (eq-eqb 0 _ (sym (if1 .left))))
 
 returns-2 : tie.Need-returns-2 Inv-loop μ-loop
-returns-2 c = tested-all (c .before .loop .inv) (c .loop-test .left)
+returns-2 c = ended (c .before .loop .inv) refl (c .loop-test .left)
 
 pub zero-from-spec : {M : Type 1} → statement M
 zero-from-spec =

@@ -1,11 +1,12 @@
 -- `sound_tables::used::every_table_used` meets its contract. Assumes nothing.
 use denote.Ref.{now}
-use borrow.Author.Tests.{not-true, not-false}
+use mathlib.Core.Bool.{not}
+use mathlib.Core.Path.{ap}
 use native.Mathlib.Omega.{arith}
 use Prim.Native.Nat.{_-_}
 use Rattle.store.specs.Layout.{parse}
 use Rattle.store.specs.Model.{free}
-use Rattle.sound_tables.specs.Testing.{EveryPlace, every-place-from, test-failed, test-on, tested-all}
+use Rattle.store.specs.Scans.{Scanning, placesScan, scan, stopped, went-on, ended}
 use Rattle.sound_tables.specs.Used.{tableUsed, everyTableUsed, table-at}
 use borrow.Author.Needs.{needs}
 use Rattle.sound_tables.proofs.used.every_table_used.Statement.{statement}
@@ -13,7 +14,8 @@ use Rattle.sound_tables.proofs.used.every_table_used.Tie as tie
 
 abbrev Inv-loop : tie.InvT-loop
 Inv-loop image users count done₀ done =
-    EveryPlace (tableUsed (parse image)) (parse image .tables) free count done (everyTableUsed (parse image))
+    Scanning (placesScan free (tableUsed (parse image)) (parse image .tables)) done
+    (everyTableUsed (parse image))
 
 abbrev μ-loop : tie.MeasureT-loop
 μ-loop image users count done₀ done = count - done
@@ -22,10 +24,7 @@ table-count-requires : tie.Need-table-count-requires Inv-loop μ-loop
 table-count-requires c κs = search needs
 
 loop-holds : tie.Need-loop-holds Inv-loop μ-loop
-loop-holds c =
-    let args = c .before .before .before .args in
-    let table-count = c .table-count in
-    every-place-from (tableUsed (parse (now (args .image)))) _ free (table-count .ensures)
+loop-holds c = scan _ 0 (omega arith)
 
 add-table-used : tie.Need-add-table-used Inv-loop μ-loop
 add-table-used c =
@@ -46,8 +45,9 @@ returns c =
     let args = c .before .before .before .before .before .before .before .args in
     let table-used = c .before .table-used in
     let if1 = c .if1 in
-    test-failed (loop .inv) (loop-test .taken)
-    (table-at (parse (now (args .image))) _ (table-used .ensures)) (not-true _ (if1 .taken))
+    let table-count = c .before .before .before .before .table-count in
+    stopped (loop .inv) (table-count .ensures) (loop-test .taken)
+    (ap not (table-at (parse (now (args .image))) _ (table-used .ensures))) (if1 .taken)
 
 add-done : tie.Need-add-done Inv-loop μ-loop
 add-done c =
@@ -65,11 +65,12 @@ loop-again c =
     let args = c .before .before .before .before .before .before .before .args in
     let table-used = c .before .table-used in
     let if1 = c .if1 in
-    test-on (loop .inv) (loop-test .taken) (table-at (parse (now (args .image))) _ (table-used .ensures))
-    (not-false _ (if1 .left))
+    let table-count = c .before .before .before .before .table-count in
+    went-on (loop .inv) (table-count .ensures) (loop-test .taken)
+    (ap not (table-at (parse (now (args .image))) _ (table-used .ensures))) (if1 .left)
 
 returns-2 : tie.Need-returns-2 Inv-loop μ-loop
-returns-2 c = tested-all (c .before .loop .inv) (c .loop-test .left)
+returns-2 c = ended (c .before .loop .inv) (c .before .before .table-count .ensures) (c .loop-test .left)
 
 pub every-table-used-spec : {M : Type 1} → statement M
 every-table-used-spec =

@@ -1,11 +1,12 @@
 -- `sound_tables::used::every_unique_alone` meets its contract. Assumes nothing.
 use denote.Ref.{now}
-use borrow.Author.Tests.{not-true, not-false}
+use mathlib.Core.Bool.{not}
+use mathlib.Core.Path.{ap}
 use native.Mathlib.Omega.{arith}
 use Prim.Native.Nat.{_-_}
 use Rattle.store.specs.Layout.{parse}
 use Rattle.store.specs.Model.{noShape}
-use Rattle.sound_tables.specs.Testing.{EveryPlace, every-place-from, test-failed, test-on, tested-all}
+use Rattle.store.specs.Scans.{Scanning, placesScan, scan, stopped, went-on, ended}
 use Rattle.sound_tables.specs.Used.{uniqueAlone, everyUniqueAlone, alone-at, shape-sited}
 use borrow.Author.Needs.{needs}
 use Rattle.sound_tables.proofs.used.every_unique_alone.Statement.{statement}
@@ -14,7 +15,7 @@ use Rattle.sound_tables.proofs.used.every_unique_alone.Tie as tie
 abbrev Inv-loop : tie.InvT-loop
 Inv-loop image users count done₀ done =
     let m = parse image in
-    EveryPlace (uniqueAlone m) (m .shapes) noShape count done (everyUniqueAlone m)
+    Scanning (placesScan noShape (uniqueAlone m) (m .shapes)) done (everyUniqueAlone m)
 
 abbrev μ-loop : tie.MeasureT-loop
 μ-loop image users count done₀ done = count - done
@@ -23,10 +24,7 @@ shape-count-requires : tie.Need-shape-count-requires Inv-loop μ-loop
 shape-count-requires c κs = search needs
 
 loop-holds : tie.Need-loop-holds Inv-loop μ-loop
-loop-holds c =
-    let args = c .before .before .before .args in
-    let shape-count = c .shape-count in
-    every-place-from (uniqueAlone (parse (now (args .image)))) _ noShape (shape-count .ensures)
+loop-holds c = scan _ 0 (omega arith)
 
 add-get-shape : tie.Need-add-get-shape Inv-loop μ-loop
 add-get-shape c =
@@ -56,10 +54,11 @@ returns c =
     let get-shape = c .before .before .get-shape in
     let unique-alone = c .before .unique-alone in
     let if1 = c .if1 in
-    test-failed (loop .inv) (loop-test .taken)
-    (alone-at _ (pre .1 .1)
+    let shape-count = c .before .before .before .before .before .shape-count in
+    stopped (loop .inv) (shape-count .ensures) (loop-test .taken)
+    (ap not (alone-at _ (pre .1 .1)
     (shape-sited (pre .0) (pre .1 .0) (now (args .users)) _ (pre .1 .1 .long) (get-shape .ensures))
-    (get-shape .ensures) (unique-alone .ensures)) (not-true _ (if1 .taken))
+    (get-shape .ensures) (unique-alone .ensures))) (if1 .taken)
 
 add-done : tie.Need-add-done Inv-loop μ-loop
 add-done c =
@@ -79,13 +78,14 @@ loop-again c =
     let get-shape = c .before .before .get-shape in
     let unique-alone = c .before .unique-alone in
     let if1 = c .if1 in
-    test-on (loop .inv) (loop-test .taken)
-    (alone-at _ (pre .1 .1)
+    let shape-count = c .before .before .before .before .before .shape-count in
+    went-on (loop .inv) (shape-count .ensures) (loop-test .taken)
+    (ap not (alone-at _ (pre .1 .1)
     (shape-sited (pre .0) (pre .1 .0) (now (args .users)) _ (pre .1 .1 .long) (get-shape .ensures))
-    (get-shape .ensures) (unique-alone .ensures)) (not-false _ (if1 .left))
+    (get-shape .ensures) (unique-alone .ensures))) (if1 .left)
 
 returns-2 : tie.Need-returns-2 Inv-loop μ-loop
-returns-2 c = tested-all (c .before .loop .inv) (c .loop-test .left)
+returns-2 c = ended (c .before .loop .inv) (c .before .before .shape-count .ensures) (c .loop-test .left)
 
 pub every-unique-alone-spec : {M : Type 1} → statement M
 every-unique-alone-spec =

@@ -1,14 +1,12 @@
 -- `store::rows::count_unused` meets its contract. Assumes nothing.
 use native.Mathlib.Omega.{arith}
-use Rattle.store.specs.FreePlaces.{Counting, count, count-next, counted-all, at-most-one, unused}
+use Rattle.store.specs.FreePlaces.{unused}
+use Rattle.store.specs.Scans.{Counting, count, count-next, counted-all, at-most-one}
 use Rattle.store.specs.Rows.{length-rows}
 use Rattle.store.specs.Layout.{rows}
-use Rattle.slot.specs.If.{if_then_else_}
 use lib.ListN.{drop}
 use Prim.Native.Nat.{_-_}
 use mathlib.Core.List.{[]}
-use mathlib.Core.Bool.{Bool}
-use mathlib.Core.Path.{_∙_, ap}
 use borrow.Author.Needs.{needs}
 use Rattle.store.proofs.rows.count_unused.Statement.{statement}
 use Rattle.store.proofs.rows.count_unused.Tie as tie
@@ -49,8 +47,8 @@ loop-again c =
     let loop-test = c .before .before .loop-test in
     let one-if = c .one-if in
     let is-unused = c .before .is-unused in
-    count-next unused (loop .inv) [] (rw length-rows (loop-test .taken))
-    (one-if .ensures ∙ ap (λ (b : Bool). if b then 1 else 0) (is-unused .ensures))
+    count-next unused (loop .inv) [] (rw length-rows (loop-test .taken)) (is-unused .ensures)
+    (one-if .ensures)
 
 returns : tie.Need-returns Inv-loop μ-loop
 returns c = counted-all unused (c .before .loop .inv) (rw length-rows (c .loop-test .left))

@@ -1,23 +1,28 @@
 -- `store::rows::lowest_unused` meets its contract. Assumes nothing.
-use Rattle.store.specs.FreePlaces.{Seeking, seek, sought, seek-on, sought-nowhere, unused}
+use Rattle.store.specs.FreePlaces.{unused}
+use Rattle.store.specs.Scans.{Scanning, lowestScan, scan, stopped, went-on, ended}
+use Rattle.store.specs.Lists.{lowest}
 use Rattle.store.specs.Rows.{length-rows}
 use Rattle.store.specs.Layout.{rows}
 use lib.ListN.{drop}
 use Prim.Native.Nat.{_-_}
 use mathlib.Core.List.{[]}
-use mathlib.Core.Path.{_∙_, sym}
+use native.Mathlib.Omega.{arith}
+use mathlib.Core.Path.{sym}
 use borrow.Author.Needs.{needs}
 use Rattle.store.proofs.rows.lowest_unused.Statement.{statement}
 use Rattle.store.proofs.rows.lowest_unused.Tie as tie
 
 abbrev Inv-loop : tie.InvT-loop
-Inv-loop image area width count done₀ done = Seeking unused (rows width count (drop area image)) done
+Inv-loop image area width count done₀ done =
+    Scanning (lowestScan [] unused (rows width count (drop area image))) done
+    (lowest unused 1 (rows width count (drop area image)))
 
 abbrev μ-loop : tie.MeasureT-loop
 μ-loop image area width count done₀ done = count - done
 
 loop-holds : tie.Need-loop-holds Inv-loop μ-loop
-loop-holds c = seek unused _
+loop-holds c = scan _ 0 (omega arith)
 
 is-unused-requires : tie.Need-is-unused-requires Inv-loop μ-loop
 is-unused-requires c κs = search needs
@@ -31,7 +36,7 @@ returns c =
     let loop-test = c .before .before .loop-test in
     let is-unused = c .before .is-unused in
     let if1 = c .if1 in
-    sought unused (loop .inv) [] (rw length-rows (loop-test .taken)) (sym (is-unused .ensures) ∙ if1 .taken)
+    stopped (loop .inv) (sym (length-rows _ _ _)) (loop-test .taken) (is-unused .ensures) (if1 .taken)
 
 add-done : tie.Need-add-done Inv-loop μ-loop
 add-done c = search needs
@@ -45,10 +50,10 @@ loop-again c =
     let loop-test = c .before .before .loop-test in
     let is-unused = c .before .is-unused in
     let if1 = c .if1 in
-    seek-on unused (loop .inv) [] (rw length-rows (loop-test .taken)) (sym (is-unused .ensures) ∙ if1 .left)
+    went-on (loop .inv) (sym (length-rows _ _ _)) (loop-test .taken) (is-unused .ensures) (if1 .left)
 
 returns-2 : tie.Need-returns-2 Inv-loop μ-loop
-returns-2 c = sought-nowhere unused (c .before .loop .inv) (rw length-rows (c .loop-test .left))
+returns-2 c = ended (c .before .loop .inv) (sym (length-rows _ _ _)) (c .loop-test .left)
 
 pub lowest-unused-spec : {M : Type 1} → statement M
 lowest-unused-spec =

@@ -11,7 +11,8 @@ use Rattle.store.specs.Layout.{parse}
 use Rattle.rules.specs.Sound.{uses}
 use Rattle.rules.specs.Sweep.{sweepTables}
 use Rattle.sweep.specs.Marks.{marked}
-use Rattle.sweep.specs.Passes.{kept-long, kept-at, ofTables, Pass, pass-start, pass-next, pass-end}
+use Rattle.store.specs.Passes.{ofTables, Pass, pass-start, pass-next, pass-end}
+use Rattle.sweep.specs.Passes.{kept-long, kept-at}
 use Rattle.sweep.proofs.passes.free_unmarked_tables.Statement.{statement}
 use Rattle.sweep.proofs.passes.free_unmarked_tables.Tie as tie
 

@@ -1,5 +1,4 @@
 -- `sweep::passes::sweep_edge` meets its contract. Assumes nothing.
-use Prim.Native.Nat.{_-_}
 use borrow.Author.Needs.{needs}
 use Rattle.sweep.proofs.passes.sweep_edge.Statement.{statement}
 use Rattle.sweep.proofs.passes.sweep_edge.Tie as tie

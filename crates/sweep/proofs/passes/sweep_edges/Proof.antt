@@ -8,7 +8,8 @@ use Rattle.store.specs.Model.{edgeAt, putEdge}
 use Rattle.store.specs.Layout.{parse}
 use Rattle.rules.specs.Sweep.{sweepEdge}
 use Rattle.sweep.specs.Marks.{marked}
-use Rattle.sweep.specs.Passes.{edges-long, edge-at, ofEdges, Pass, pass-start, pass-next, pass-end}
+use Rattle.store.specs.Passes.{ofEdges, Pass, pass-start, pass-next, pass-end}
+use Rattle.sweep.specs.Passes.{edges-long, edge-at}
 use Rattle.sweep.proofs.passes.sweep_edges.Statement.{statement}
 use Rattle.sweep.proofs.passes.sweep_edges.Tie as tie
 

@@ -1,8 +1,7 @@
 -- `sweep::passes::sweep_shape` meets its contract. Assumes nothing.
-use Prim.Native.Nat.{_-_}
 use borrow.Author.Needs.{needs}
 use Rattle.store.specs.Model.{shapeAt, putShape}
-use Rattle.sweep.specs.Passes.{ofShapes, stays}
+use Rattle.store.specs.Passes.{ofShapes, stays}
 use Rattle.sweep.proofs.passes.sweep_shape.Statement.{statement}
 use Rattle.sweep.proofs.passes.sweep_shape.Tie as tie
 

@@ -9,7 +9,8 @@ use Rattle.store.specs.Model.{noShape, shapeAt, putShape}
 use Rattle.store.specs.Layout.{parse}
 use Rattle.rules.specs.Sweep.{sweepShapes}
 use Rattle.sweep.specs.Marks.{marked}
-use Rattle.sweep.specs.Passes.{kept-long, kept-at, ofShapes, Pass, pass-start, pass-next, pass-end}
+use Rattle.store.specs.Passes.{ofShapes, Pass, pass-start, pass-next, pass-end}
+use Rattle.sweep.specs.Passes.{kept-long, kept-at}
 use Rattle.sweep.proofs.passes.sweep_shapes.Statement.{statement}
 use Rattle.sweep.proofs.passes.sweep_shapes.Tie as tie
 

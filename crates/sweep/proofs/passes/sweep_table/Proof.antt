@@ -1,8 +1,7 @@
 -- `sweep::passes::sweep_table` meets its contract. Assumes nothing.
-use Prim.Native.Nat.{_-_}
 use borrow.Author.Needs.{needs}
 use Rattle.store.specs.Model.{tableAt, putTable}
-use Rattle.sweep.specs.Passes.{ofTables, stays}
+use Rattle.store.specs.Passes.{ofTables, stays}
 use Rattle.sweep.proofs.passes.sweep_table.Statement.{statement}
 use Rattle.sweep.proofs.passes.sweep_table.Tie as tie
 

@@ -1,5 +1,4 @@
 -- `sweep::walks::walk_if_held` meets its contract. Assumes nothing.
-use Prim.Native.Nat.{_-_}
 use borrow.Author.Tests.{eq-eqb, ne-eqb}
 use borrow.Author.Needs.{needs}
 use Rattle.theorems.specs.HeldChains.{held-on-its-chain}
