@@ -54,7 +54,7 @@ pub followed-used : (ts : List Step) (m : Model) → Sound m → (n : ℕ) → s
 followed-used ts m sound n isShared =
     shared-used (shapeAt m (follow ts m n .place)) (followed-shared ts m sound n isShared)
 
-steps-left : (ts : List Step) (m : Model) (n : ℕ)
+pub steps-left : (ts : List Step) (m : Model) (n : ℕ)
     → let w = follow ts m n in steps ts m n ≡ steps (drop (w .found) ts) m (w .place)
 unfolding steps
 steps-left [] m n = refl
@@ -70,7 +70,7 @@ steps-left (t ∷ ts) m n = go (either (eqb c 0)) (steps-left ts m c)
     go (inl new) rest = rw new
     go (inr live) rest = rw (live, live-step m n t live) rest
 
-legal-left : (ts : List Step) (m : Model) (n : ℕ) → LegalSteps ts m n
+pub legal-left : (ts : List Step) (m : Model) (n : ℕ) → LegalSteps ts m n
     → let w = follow ts m n in LegalSteps (drop (w .found) ts) m (w .place)
 legal-left [] m n legal = tt
 legal-left (t ∷ ts) m n legal = go (either (eqb c 0)) (legal-left ts m c)
