@@ -27,7 +27,7 @@ use Rattle.rules.specs.Replies.{Answers}
 use Rattle.theorems.specs.Facts.{Sound}
 use Rattle.theorems.specs.Made.{entriesAt}
 use Rattle.theorems.specs.Quiet.{holdsAt, raw-holds}
-use Rattle.theorems.specs.Outcomes.{Outcome}
+use Rattle.theorems.specs.Outcomes.{Outcome, byInsert, byChange}
 use Rattle.theorems.specs.Changes.{ChangesTo, may-act, inserted-gives, changed-gives}
 
 -- The table's order: "KeysFull" comes before "HoldsFull".
@@ -69,7 +69,7 @@ module _ (ws : List ℕ) (sound : Sound (parse ws)) (n : ℕ) (may : unheld (par
   unfolding inserted insertUnique
   insert-full absent action = go (either (eqb (s .properties) (m .K)))
     where
-      gives : (y : Placed) → inserted m n k a ≡ ok y → ChangesTo m n _ y × (y .1 ≡ n)
+      gives : (y : Placed) → inserted m n k a ≡ ok y → ChangesTo m n (byInsert m n k a) y × (y .1 ≡ n)
       gives y e =
           let c = inserted-gives m sound n (may-act m sound n may) k a good (le-leb a 31 low) absent y e in
           (c, c .ofUnique isUnique .1)
@@ -85,7 +85,7 @@ module _ (ws : List ℕ) (sound : Sound (parse ws)) (n : ℕ) (may : unheld (par
   unfolding changed changeUnique
   change-full held wide action = result-full action gives (rw (isUnique, wide) (_, refl))
     where
-      gives : (y : Placed) → changed m n k a ≡ ok y → ChangesTo m n _ y × (y .1 ≡ n)
+      gives : (y : Placed) → changed m n k a ≡ ok y → ChangesTo m n (byChange m n k a) y × (y .1 ≡ n)
       gives y e =
           let c = changed-gives m sound n (may-act m sound n may) k a good (le-leb a 31 low) held y e in
           (c, rw wide at (c .ofUnique isUnique .1))

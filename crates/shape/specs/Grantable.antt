@@ -7,7 +7,8 @@ use mathlib.Core.Path.{_≡_, refl, sym, ap, _∙_}
 use Prim.Native.Nat.{ℕ, _≤_}
 use native.Mathlib.Omega.{arith}
 use borrow.Author.Tests.{leb-false, le-leb}
-use lib.Dec.{eqb, leb}
+use lib.Dec.{leb}
+use lib.ListN.{length}
 use Rattle.slot.specs.If.{if_then_else_}
 use Rattle.slot.specs.Attributes.{sameWidth}
 use Rattle.store.specs.Model.{Model, shapeAt}
@@ -23,7 +24,8 @@ use Rattle.rules.specs.Numbers.{goodKey}
 use Rattle.rules.specs.Shapes.{has, attributesIn, without, laid, configured, unique, rootShape, uniqueShape}
 use Rattle.rules.specs.Refusals.{Got, ok}
 use Rattle.rules.specs.Settled.{same-given}
-use Rattle.rules.specs.Steps.{Step, insert, configure, prototype, Placed, step, steps, fresh, thenLimit}
+use Rattle.rules.specs.Steps.{Step, insert, configure, prototype, Placed, step, steps, rollback, fresh}
+use Rattle.rules.specs.Steps.{thenLimit}
 use Rattle.rules.specs.Unique.{emptied, replaced, insertUnique, removeUnique, changeUnique, prototypeUnique}
 use Rattle.rules.specs.Unique.{inserted, changed, removed, rebased}
 use Rattle.rules.specs.Placing.{Passes}
@@ -81,18 +83,109 @@ module _ (m : Model) (sound : Sound m) where
 -- ## A shape in either state
 
 module _ (m : Model) (sound : Sound m) (n : ℕ) (may : unheld m n ≡ false) where
+  abbrev es : List Entry
+  es = entriesAt m n
+
   acts : MayAct m n
   acts = may-act m sound n may
 
-  -- It is looked at before, so that they are not all.
-  same-unwritten : {o : Outcome} (y : Placed) → ChangesTo m n o y → y .1 ≡ n
-      → leb 65535 (shapeAt m n .holds) ≡ false → 65535 ≤ holdsGiven y → y .0 ≡ m
-  same-unwritten y c at few full =
+  either-state : {rule : Got Placed} → (unique (shapeAt m n) ≡ true → Unwritten m rule)
+      → (unique (shapeAt m n) ≡ false → Unwritten m rule) → Unwritten m rule
+  either-state ofUnique ofShared = go (either (unique (shapeAt m n)))
+    where
+      go : Decided (unique (shapeAt m n)) → Unwritten m _
+      go (inl r) = ofUnique r
+      go (inr r) = ofShared r
+
+  -- A change that acts on the same number: its holds are looked at before, and it has room for one more.
+  same-unwritten : {rule : Got Placed} {o : Outcome} → leb 65535 (shapeAt m n .holds) ≡ false
+      → ((y : Placed) → rule ≡ ok y → ChangesTo m n o y × (y .1 ≡ n)) → Unwritten m rule
+  same-unwritten few gives y e full =
+      let (c, at) = gives y e in
       absurd (omega (arith, same-number sound c at, leb-false 65535 (shapeAt m n .holds) few, full))
 
-  steps-unwritten : (ts : List Step) (from : ℕ) → LegalSteps ts m from → Unwritten m (thenLimit (steps ts m from))
-  steps-unwritten ts from legal y e full = held-limited ts m sound from legal y e (λ none. omega (arith, none, full))
+  steps-unwritten : (ts : List Step) (from : ℕ) → LegalSteps ts m from
+      → Unwritten m (thenLimit (steps ts m from))
+  steps-unwritten ts from legal y e full =
+      held-limited ts m sound from legal y e (λ none. omega (arith, none, full))
 
   step-unwritten : (t : Step) → Legal m n t → Unwritten m (thenLimit (step m n t))
   step-unwritten t legal =
       rw (← one-step-is m n t) (steps-unwritten (t ∷ []) n (legal, λ y e. tt))
+
+  replaced-unwritten : (q p : ℕ) (fs : List Entry) → Unwritten m (replaced (emptied m n q) p fs)
+  replaced-unwritten q p fs = new-unwritten m (emptied m n q) (uniqueShape 0 (length fs) p) fs (λ t. refl)
+
+  module _ (k : ℕ) where
+    module _ (a : ℕ) (good : goodKey k ≡ true) (low : a ≤ 31) where
+      pub insert-grantable : has k es ≡ false
+          → (unique (shapeAt m n) && leb 65535 (shapeAt m n .holds)) ≡ false → Grantable m (inserted m n k a)
+      insert-grantable absent room =
+          record {
+            inUse = λ y e. gives y e .gives .isUsed;
+            unwritten =
+                either-state
+                (λ r. same-unwritten (rw r at room) (λ y e. (gives y e, gives y e .ofUnique r .1)))
+                (λ r. rw (insert-of-shared m n r k a)
+                (step-unwritten (insert k a) (insert-legal m n r sound may good low absent)));
+          }
+        where
+          gives : (y : Placed) → inserted m n k a ≡ ok y → ChangesTo m n (byInsert m n k a) y
+          gives = inserted-gives m sound n acts k a good (le-leb a 31 low) absent
+
+      pub change-grantable : has k es ≡ true
+          → (unique (shapeAt m n) && sameWidth (attributesIn k es) a && leb 65535 (shapeAt m n .holds)) ≡ false
+          → Grantable m (changed m n k a)
+      change-grantable holds room =
+          record {
+            inUse = λ y e. gives y e .gives .isUsed;
+            unwritten = go (either (sameWidth (attributesIn k es) a));
+          }
+        where
+          gives : (y : Placed) → changed m n k a ≡ ok y → ChangesTo m n (byChange m n k a) y
+          gives = changed-gives m sound n acts k a good (le-leb a 31 low) holds
+
+          go : Decided (sameWidth (attributesIn k es) a) → Unwritten m (changed m n k a)
+          unfolding changeUnique
+          go (inl wide) =
+              either-state
+              (λ r. same-unwritten (rw (r, wide) at room) (λ y e. (gives y e, rw wide at (gives y e .ofUnique r .1))))
+              (λ r.
+              let h = is-shared m n r sound may in
+              rw (change-of-shared m n r k a, ← configure-is m sound n k h holds a wide)
+              (step-unwritten (configure k a) (configure-legal m sound n k h holds a wide (acts .below) good low)))
+          go (inr wide) =
+              either-state
+              (λ r. rw (change-of-unique m n r k a, wide) (replaced-unwritten 0 _ _))
+              (λ r.
+              let h = is-shared m n r sound may in
+              rw (change-of-shared m n r k a, ← change-is m sound n k h holds refl low refl wide)
+              (steps-unwritten (changeSteps m n k a) (rollback m n k .base) (change-legal m sound n k h holds refl low refl)))
+
+    pub removal-grantable : (SharedAt m n → has k es ≡ true) → Grantable m (removed m n k)
+    removal-grantable holds =
+        record {
+          inUse = λ y e. removed-gives m sound n acts k holds y e .gives .isUsed;
+          unwritten = either-state (λ r. ofUnique r (either (has k es))) (λ r.
+          let h = is-shared m n r sound may in
+          rw (removal-of-shared m n r k, ← removal-is m sound n k h (holds h) refl refl)
+          (steps-unwritten (removalSteps m n k) (rollback m n k .base) (removal-legal m sound n k h (holds h) refl refl)));
+        }
+      where
+        ofUnique : unique (shapeAt m n) ≡ true → Decided (has k es) → Unwritten m (removed m n k)
+        unfolding removeUnique
+        ofUnique r (inl q) = rw (removal-of-unique m n r k, q) (replaced-unwritten 0 _ _)
+        ofUnique r (inr q) y e full =
+            ap (λ (z : Placed). z .0) (sym (same-given (rw (removal-of-unique m n r k, q) at e)))
+
+  pub prototype-grantable : (p : ℕ) → Grantable m (rebased m n p)
+  unfolding prototypeUnique
+  prototype-grantable p =
+      record {
+        inUse = λ y e. rebased-gives m sound n acts p y e .gives .isUsed;
+        unwritten =
+            either-state
+            (λ r. rw (prototype-of-unique m n r p) (replaced-unwritten (shapeAt m n .prototype) p es))
+            (λ r. rw (prototype-of-shared m n r p)
+            (step-unwritten (prototype p) (prototype-legal m n r sound may p)));
+      }
