@@ -197,11 +197,12 @@ pub fn copy_changed(
         (keyAt (entriesIn (now (image .entry)) from) (position .0)) (attributes .0)))))
         ⌝ }
 {
-    let count = entry_count(image, from);
+    let all = entry_count(image, from);
     let e = get_entry(image, from, position);
     copy_entries(image, from, to, position.0);
     append(image, to, e.key, attributes);
-    append_entries(image, from, to, position.0 + 1, count);
+    let next = position.0 + 1;
+    append_entries(image, from, to, next, all);
 }
 
 pub fn set_attributes_at_index(

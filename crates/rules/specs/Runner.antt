@@ -24,13 +24,13 @@ runnerLimits = record { S = 256; T = 32; K = 32; E = 256 }
 
 -- ## Lines
 
-abbrev lineFeed : ℕ
+abbrev pub lineFeed : ℕ
 lineFeed = 10
 
-abbrev space : ℕ
+abbrev pub space : ℕ
 space = 32
 
-abbrev onFirst : ℕ → List (List ℕ) → List (List ℕ)
+abbrev pub onFirst : ℕ → List (List ℕ) → List (List ℕ)
 onFirst b [] = (b ∷ []) ∷ []
 onFirst b (p ∷ ps) = (b ∷ p) ∷ ps
 
@@ -42,12 +42,12 @@ parts separator (b ∷ bs) =
     if eqb b separator then [] ∷ ps else onFirst b ps
 
 -- "Decimal, leading zeros allowed"
-abbrev decimal : ℕ → List ℕ → Option ℕ
+abbrev pub decimal : ℕ → List ℕ → Option ℕ
 decimal value [] = some value
 decimal value (b ∷ bs) =
     elim (within 48 57 b) [ true ↦ decimal (10 * value + (b - 48)) bs | false ↦ none ]
 
-abbrev below2^32 : Option ℕ → Option ℕ
+abbrev pub below2^32 : Option ℕ → Option ℕ
 below2^32 none = none
 below2^32 (some n) = if ltb n (2 ^ 32) then some n else none
 
@@ -56,7 +56,7 @@ abbrev pub number : List ℕ → Option ℕ
 number [] = none
 number (b ∷ bs) = below2^32 (decimal 0 (b ∷ bs))
 
-abbrev both : Option ℕ → Option (List ℕ) → Option (List ℕ)
+abbrev pub both : Option ℕ → Option (List ℕ) → Option (List ℕ)
 both none ns = none
 both (some n) none = none
 both (some n) (some ns) = some (n ∷ ns)
@@ -98,11 +98,11 @@ made (some f) ns = some (f .makes ns)
 abbrev fits : List ℕ → List ℕ → Form → Bool
 fits word ns f = agree word (f .letter ∷ []) && eqb (length ns) (f .count)
 
-abbrev formed : List ℕ → Option (List ℕ) → Option Call
+abbrev pub formed : List ℕ → Option (List ℕ) → Option Call
 formed word none = none
 formed word (some ns) = made (first (fits word ns) forms) ns
 
-abbrev command : List (List ℕ) → Option Call
+abbrev pub command : List (List ℕ) → Option Call
 command [] = none
 command (word ∷ ps) = formed word (numbers ps)
 

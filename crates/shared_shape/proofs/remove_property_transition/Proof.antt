@@ -1,34 +1,41 @@
+-- `shared_shape::remove_property_transition` meets its contract. Assumes nothing.
+use native.Mathlib.Omega.{arith}
+use Rattle.shared_shape.specs.Replays.{base-shared, removal-legal, removal-is}
 use borrow.Author.Needs.{needs}
 use Rattle.shared_shape.proofs.remove_property_transition.Statement.{statement}
 use Rattle.shared_shape.proofs.remove_property_transition.Tie as tie
-use Rattle.shared_shape.proofs.remove_property_transition.Reads as reads
-use Rattle.shared_shape.proofs.remove_property_transition.Lts as lts
-use Rattle.rollback.proofs.removal_steps.Reads as removal-steps-reads
-use Rattle.shared_shape.proofs.transition.Reads as transition-reads
 
--- src/lib.rt:150:47
 slice-aggregate-removal-steps : tie.Need-slice-aggregate-removal-steps
 slice-aggregate-removal-steps c = search needs
 
--- src/lib.rt:150:9
 removal-steps-requires : tie.Need-removal-steps-requires
-removal-steps-requires c κs = ?
+removal-steps-requires c κs =
+    let pre = c .before .before .before .pre in
+    (pre .0, (pre .1 .0, (pre .1 .1 .0, (pre .1 .1 .1, omega arith))))
 
--- src/lib.rt:151:36
 slice-aggregate-transition : tie.Need-slice-aggregate-transition
 slice-aggregate-transition c = search needs
 
--- src/lib.rt:151:5
 transition-requires : tie.Need-transition-requires
-transition-requires c κs = ?
+transition-requires c κs =
+    let replay = c .before .before .before .removal-steps .ensures in
+    let pre = c .before .before .before .before .before .before .before .pre in
+    let isShared = pre .1 .1 .0 in
+    let holds = pre .1 .1 .1 in
+    let base = base-shared _ (pre .1 .0) _ _ isShared holds (replay .0) in
+    let legal = removal-legal _ (pre .1 .0) _ _ isShared holds (replay .0) (replay .1 .steps) in
+    (pre .0, (pre .1 .0, (base, (replay .1 .inside, legal))))
 
--- src/lib.rt:139:1
 same-length : tie.Need-same-length
 same-length c = search needs
 
--- src/lib.rt:139:1
 returns : tie.Need-returns
-returns c = ?
+returns c =
+    let transition = c .before .before .transition in
+    let removal-steps = c .before .before .before .before .before .before .removal-steps in
+    let pre = c .before .before .before .before .before .before .before .before .before .before .pre in
+    rw (← removal-is _ (pre .1 .0) _ _ (pre .1 .1 .0) (pre .1 .1 .1) (removal-steps .ensures .0)
+    (removal-steps .ensures .1 .steps)) (transition .ensures)
 
 pub remove-property-transition-spec : {M : Type 1} → statement M
 remove-property-transition-spec =

@@ -1,34 +1,43 @@
+-- `shared_shape::width_stays` meets its contract. Assumes nothing.
+use denote.Ref.{now}
+use Rattle.store.specs.Layout.{parse}
+use Rattle.theorems.specs.Made.{entriesAt}
+use mathlib.Core.Path.{sym, _∙_}
+use Rattle.shared_shape.specs.Transition.{its-used}
+use Rattle.shared_shape.specs.Replays.{width-told, key-there}
 use borrow.Author.Needs.{needs}
 use Rattle.shared_shape.proofs.width_stays.Statement.{statement}
 use Rattle.shared_shape.proofs.width_stays.Tie as tie
-use Rattle.shared_shape.proofs.width_stays.Reads as reads
-use Rattle.shared_shape.proofs.width_stays.Lts as lts
-use Rattle.property_table.proofs.find.Reads as find-reads
-use Rattle.slot.proofs.SlotAttributes.width_match.Reads as width-match-reads
 
--- src/lib.rt:180:11
 find-requires : tie.Need-find-requires
-find-requires c κs = search needs
+find-requires c κs =
+    let pre = c .before .pre in
+    (pre .0, (pre .1 .0, its-used _ (pre .1 .0) _ (pre .1 .1 .0)))
 
--- src/lib.rt:181:30
 enum-known-p : tie.Need-enum-known-p
 enum-known-p c = search needs
 
--- src/lib.rt:184:13
 width-match-requires : tie.Need-width-match-requires
 width-match-requires c κs = search needs
 
--- src/lib.rt:186:38
 enum-told : tie.Need-enum-told
 enum-told c = search needs
 
--- src/lib.rt:171:1
 returns : tie.Need-returns
-returns c = search needs
+returns c =
+    let p = c .before .before .before .before .p in
+    let find = c .before .before .before .before .before .before .find in
+    let args = c .before .before .before .before .before .before .before .before .args in
+    width-told (args .key) _ (entriesAt (parse (now (args .image))) (args .n)) (sym (find .ensures) ∙ p
+    .given .1) (c .width-match .ensures)
 
--- src/lib.rt:171:1
 returns-2 : tie.Need-returns-2
-returns-2 c = search needs
+returns-2 c =
+    let find = c .before .before .find in
+    let args = c .before .before .before .before .args in
+    let pre = c .before .before .before .before .pre in
+    key-there (args .key) _ (entriesAt (parse (now (args .image))) (args .n)) (sym (find .ensures) ∙ c
+    .enum-told .given .1) (pre .1 .1 .1)
 
 pub width-stays-spec : {M : Type 1} → statement M
 width-stays-spec =

@@ -1,0 +1,5 @@
+pub mod Commands
+pub mod Reading
+pub mod Lines
+pub mod Decimal
+pub mod Writing
