@@ -18,7 +18,7 @@ use Rattle.rules.specs.declared.Refusal.{Refusal}
 use Rattle.rules.specs.declared.Refusal.the-variants.{KeysFull, HoldsFull}
 use Rattle.rules.specs.Numbers.{goodKey}
 use Rattle.rules.specs.Shapes.{has, attributesIn, unique}
-use Rattle.rules.specs.Refusals.{Got, ok}
+use Rattle.rules.specs.Refusals.{Got, ok, refused}
 use Rattle.rules.specs.Steps.{Placed}
 use Rattle.rules.specs.Unique.{insertUnique, changeUnique, inserted, changed}
 use Rattle.rules.specs.Placing.{Passes}
@@ -64,9 +64,16 @@ module _ (ws : List ℕ) (sound : Sound (parse ws)) (n : ℕ) (may : unheld (par
       let (c, at) = gives y e in
       rw (e, same-number sound c at, full) (refl, refl)
 
+  keys-full : eqb (s .properties) (m .K) ≡ true → inserted m n k a ≡ refused KeysFull
+  unfolding inserted insertUnique
+  keys-full most = rw (isUnique, most)
+
+  keys-fit : eqb (s .properties) (m .K) ≡ false → Passes (inserted m n k a)
+  unfolding inserted insertUnique
+  keys-fit few = rw (isUnique, few) (_, refl)
+
   pub insert-full : has k (entriesAt m n) ≡ false → (action : ChangeTransitionAction)
       → Answers ws ws (thenGrant action (inserted m n k a)) (No (fullRefusal m n))
-  unfolding inserted insertUnique
   insert-full absent action = go (either (eqb (s .properties) (m .K)))
     where
       gives : (y : Placed) → inserted m n k a ≡ ok y → ChangesTo m n (byInsert m n k a) y × (y .1 ≡ n)
@@ -76,14 +83,17 @@ module _ (ws : List ℕ) (sound : Sound (parse ws)) (n : ℕ) (may : unheld (par
 
       go : Decided (eqb (s .properties) (m .K))
           → Answers ws ws (thenGrant action (inserted m n k a)) (No (fullRefusal m n))
-      go (inl q) = rw (isUnique, q) (refl, refl)
-      go (inr q) = rw q (result-full action gives (rw (isUnique, q) (_, refl)))
+      go (inl most) = rw (keys-full most, most) (refl, refl)
+      go (inr few) = rw few (result-full action gives (keys-fit few))
+
+  change-passes : sameWidth (attributesIn k (entriesAt m n)) a ≡ true → Passes (changed m n k a)
+  unfolding changed changeUnique
+  change-passes wide = rw (isUnique, wide) (_, refl)
 
   pub change-full : has k (entriesAt m n) ≡ true → sameWidth (attributesIn k (entriesAt m n)) a ≡ true
       → (action : ChangeTransitionAction)
       → Answers ws ws (thenGrant action (changed m n k a)) (No HoldsFull)
-  unfolding changed changeUnique
-  change-full held wide action = result-full action gives (rw (isUnique, wide) (_, refl))
+  change-full held wide action = result-full action gives (change-passes wide)
     where
       gives : (y : Placed) → changed m n k a ≡ ok y → ChangesTo m n (byChange m n k a) y × (y .1 ≡ n)
       gives y e =

@@ -91,9 +91,9 @@ module _ (m : Model) (sound : Sound m) (n : ℕ) (may : unheld m n ≡ false) wh
 
   either-state : {rule : Got Placed} → (unique (shapeAt m n) ≡ true → Unwritten m rule)
       → (unique (shapeAt m n) ≡ false → Unwritten m rule) → Unwritten m rule
-  either-state ofUnique ofShared = go (either (unique (shapeAt m n)))
+  either-state {rule} ofUnique ofShared = go (either (unique (shapeAt m n)))
     where
-      go : Decided (unique (shapeAt m n)) → Unwritten m _
+      go : Decided (unique (shapeAt m n)) → Unwritten m rule
       go (inl r) = ofUnique r
       go (inr r) = ofShared r
 
@@ -136,6 +136,7 @@ module _ (m : Model) (sound : Sound m) (n : ℕ) (may : unheld m n ≡ false) wh
       pub change-grantable : has k es ≡ true
           → (unique (shapeAt m n) && sameWidth (attributesIn k es) a && leb 65535 (shapeAt m n .holds)) ≡ false
           → Grantable m (changed m n k a)
+      unfolding changeUnique
       change-grantable holds room =
           record {
             inUse = λ y e. gives y e .gives .isUsed;
@@ -146,7 +147,6 @@ module _ (m : Model) (sound : Sound m) (n : ℕ) (may : unheld m n ≡ false) wh
           gives = changed-gives m sound n acts k a good (le-leb a 31 low) holds
 
           go : Decided (sameWidth (attributesIn k es) a) → Unwritten m (changed m n k a)
-          unfolding changeUnique
           go (inl wide) =
               either-state
               (λ r. same-unwritten (rw (r, wide) at room) (λ y e. (gives y e, rw wide at (gives y e .ofUnique r .1))))
@@ -156,13 +156,15 @@ module _ (m : Model) (sound : Sound m) (n : ℕ) (may : unheld m n ≡ false) wh
               (step-unwritten (configure k a) (configure-legal m sound n k h holds a wide (acts .below) good low)))
           go (inr wide) =
               either-state
-              (λ r. rw (change-of-unique m n r k a, wide) (replaced-unwritten 0 _ _))
+              (λ r. rw (change-of-unique m n r k a, wide)
+              (replaced-unwritten 0 (shapeAt m n .prototype) (laid 0 (configured es k a))))
               (λ r.
               let h = is-shared m n r sound may in
               rw (change-of-shared m n r k a, ← change-is m sound n k h holds refl low refl wide)
               (steps-unwritten (changeSteps m n k a) (rollback m n k .base) (change-legal m sound n k h holds refl low refl)))
 
     pub removal-grantable : (SharedAt m n → has k es ≡ true) → Grantable m (removed m n k)
+    unfolding removeUnique
     removal-grantable holds =
         record {
           inUse = λ y e. removed-gives m sound n acts k holds y e .gives .isUsed;
@@ -173,10 +175,11 @@ module _ (m : Model) (sound : Sound m) (n : ℕ) (may : unheld m n ≡ false) wh
         }
       where
         ofUnique : unique (shapeAt m n) ≡ true → Decided (has k es) → Unwritten m (removed m n k)
-        unfolding removeUnique
-        ofUnique r (inl q) = rw (removal-of-unique m n r k, q) (replaced-unwritten 0 _ _)
-        ofUnique r (inr q) y e full =
-            ap (λ (z : Placed). z .0) (sym (same-given (rw (removal-of-unique m n r k, q) at e)))
+        ofUnique r (inl q) =
+            rw (removal-of-unique m n r k, q)
+            (replaced-unwritten 0 (shapeAt m n .prototype) (laid 0 (without es k)))
+        ofUnique r (inr q) =
+            λ y e full. ap (λ (z : Placed). z .0) (sym (same-given (rw (removal-of-unique m n r k, q) at e)))
 
   pub prototype-grantable : (p : ℕ) → Grantable m (rebased m n p)
   unfolding prototypeUnique
