@@ -72,7 +72,7 @@ held-unchanged (t ∷ ts) m sound n legal y e held = go (either (eqb c 0)) (held
 -- ## After the conversion to unique
 
 -- The new shape stands where its place was free.
-unheld-fresh : (m : Model) (shape : ℕ → Shape) (es : List Entry) → ((t : ℕ) → shape t .holds ≡ 0)
+pub unheld-fresh : (m : Model) (shape : ℕ → Shape) (es : List Entry) → ((t : ℕ) → shape t .holds ≡ 0)
     → (y : Placed) → fresh m shape es ≡ ok y → holdsAt y ≡ 0
 unfolding fresh shapeAt putShape putTable
 unheld-fresh m shape es unheld y e =

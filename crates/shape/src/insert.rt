@@ -26,6 +26,7 @@ ghost use Rattle.rules.specs.Calls.{unheld, thenGrant, perform, insertKey};
 ghost use Rattle.rules.specs.Placing.{Places};
 ghost use Rattle.rules.specs.Replies.{Answers, shapeReply};
 ghost use Rattle.theorems.specs.Facts.{Sound};
+ghost use Rattle.shape.specs.FullHolds.{fullRefusal};
 
 fn place(image: &mut [u32], n: u32, key: u32, attributes: SlotAttributes) -> Placement
     requires { ⌜ Formed (now image) ⌝ }

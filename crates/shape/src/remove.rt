@@ -9,25 +9,22 @@ use rules::Refusal;
 use rules::ShapeReply;
 use rules::good_key;
 ghost use mathlib.Core.Path.{_≡_};
-ghost use mathlib.Core.Bool.{false, _&&_, not};
-ghost use Rattle.store.specs.Model.{shapeAt};
+ghost use mathlib.Core.Bool.{true, false};
 ghost use Rattle.store.specs.Layout.{parse};
 ghost use Rattle.store.specs.Image.{Formed};
-ghost use Rattle.rules.specs.Shapes.{has, shared, entries};
+ghost use Rattle.rules.specs.Shapes.{has};
 ghost use Rattle.rules.specs.Unique.{removed};
 ghost use Rattle.rules.specs.Calls.{unheld, perform, removeKey};
 ghost use Rattle.rules.specs.Placing.{Places};
 ghost use Rattle.rules.specs.Replies.{Answers, shapeReply};
 ghost use Rattle.theorems.specs.Facts.{Sound};
+ghost use Rattle.theorems.specs.Made.{SharedAt, entriesAt};
 
 fn place(image: &mut [u32], n: u32, key: u32) -> Placement
     requires { ⌜ Formed (now image) ⌝ }
     requires { ⌜ Sound (parse (now image)) ⌝ }
     requires { ⌜ unheld (parse (now image)) n ≡ false ⌝ }
-    requires { ⌜
-        (shared (shapeAt (parse (now image)) n)
-        && not (has key (entries (parse (now image)) (shapeAt (parse (now image)) n)))) ≡ false
-        ⌝ }
+    requires { ⌜ (SharedAt (parse (now image)) n → has key (entriesAt (parse (now image)) n) ≡ true) ⌝ }
     ensures { λ r. ⌜
         Places (now (image .entry)) (now (image .exit)) (removed (parse (now (image .entry))) n key) r
         ⌝ }

@@ -75,7 +75,7 @@ steps-sound (t ∷ ts) m sound n isShared legal y e =
     let took = step-took m sound n t (legal .0) x (b .gave) in
     steps-sound ts (x .0) (took .keeps .isSound) (x .1) (took .isShared) (legal .1 x (b .gave)) y (b .below)
 
-one-step-is : (m : Model) (n : ℕ) (t : Step) → steps (t ∷ []) m n ≡ step m n t
+pub one-step-is : (m : Model) (n : ℕ) (t : Step) → steps (t ∷ []) m n ≡ step m n t
 unfolding steps
 one-step-is m n t = go (step m n t)
   where

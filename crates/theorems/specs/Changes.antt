@@ -1,8 +1,8 @@
 -- The four changes of a shape in either state, and new shapes: what each gives before its result is held.
 -- Assumes nothing.
-use mathlib.Core.Bool.{true, false}
+use mathlib.Core.Bool.{true, false, not}
 use mathlib.Core.List.{List, []}
-use mathlib.Core.Logic.{_⊎_, inl, inr, _≢_}
+use mathlib.Core.Logic.{inl, inr, _≢_}
 use mathlib.Core.Path.{_≡_, refl, _∙_, ap}
 use Prim.Native.Nat.{ℕ, _+_, _<_}
 use native.Mathlib.Omega.{arith}
@@ -16,8 +16,7 @@ use Rattle.store.specs.ListLaws.{both-and, or-none, Decided, either, not-both}
 use Rattle.store.specs.declared.Shape.{Shape}
 use Rattle.store.specs.declared.Entry.{Entry}
 use Rattle.rules.specs.Numbers.{goodKey}
-use Rattle.rules.specs.Shapes.{has, attributesIn, shared, unique, isRoot, entries, rootShape}
-use Rattle.rules.specs.Shapes.{uniqueShape}
+use Rattle.rules.specs.Shapes.{has, attributesIn, unique, isRoot, entries, rootShape, uniqueShape}
 use Rattle.rules.specs.Refusals.{Got, ok, _>>=_}
 use Rattle.rules.specs.Settled.{same-given}
 use Rattle.rules.specs.Steps.{Step, insert, prototype, Placed, step, removeShared, changeShared, fresh}
@@ -28,6 +27,7 @@ use Rattle.rules.specs.Sweep.{held}
 use Rattle.rules.specs.Calls.{unheld}
 use Rattle.rules.specs.InUse.{shared-used}
 use Rattle.theorems.specs.Facts.{Used, GoodTable, Sound, unique-used, shared-not-unique}
+use Rattle.theorems.specs.Facts.{shared-or-unique}
 use Rattle.theorems.specs.Frame.{Keeps, keeps-self, keeps-fewer, keeps-again, kept-used}
 use Rattle.theorems.specs.Taken.{bind-passed}
 use Rattle.theorems.specs.Grow.{FreshShape, Fresh, fresh-keeps, fresh-root, fresh-unique}
@@ -223,16 +223,11 @@ module _ (m : Model) (sound : Sound m) where
   change-gives n u o forUnique forShared quietUnique quietShared acts leads y e =
       go (either (unique (shapeAt m n)))
     where
-      is-shared : unique (shapeAt m n) ≡ false
-          → (shared (shapeAt m n) ≡ true) ⊎ (unique (shapeAt m n) ≡ true) → SharedAt m n
-      is-shared r (inl h) = h
-      is-shared r (inr h) = not-both h r
-
       go : Decided (unique (shapeAt m n)) → ChangesTo m n o y
       go (inl r) = acted-gives m sound n o y (acts r y (rw r at e)) (quietUnique r y (rw r at e)) r
       go (inr r) =
           let b = bind-passed forShared limited y (rw r at e) in
-          let h = is-shared r (sound .shapes n u .words .state) in
+          let h = shared-or-unique (sound .shapes n u .words) ∙ ap not r in
           let x = b .result in
           shared-gives n h o x (leads h x (b .gave)) (quietShared x (b .gave)) y (b .below)
 

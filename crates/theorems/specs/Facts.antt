@@ -1,9 +1,9 @@
 -- Document 01, "Sound means all of this", as facts about places. Place 0 and those past the end are free.
 -- Assumes nothing.
-use mathlib.Core.Bool.{true, false, true≢false}
+use mathlib.Core.Bool.{true, false, not, true≢false}
 use mathlib.Core.List.{List}
 use mathlib.Core.Logic.{_⊎_, inl, inr, _≢_}
-use mathlib.Core.Path.{_≡_, refl, ap}
+use mathlib.Core.Path.{_≡_, refl, sym, _∙_, ap}
 use Prim.Native.Nat.{ℕ, _+_, _≤_}
 use borrow.Author.Tests.{eqb-true}
 use native.Mathlib.Omega.{arith}
@@ -127,6 +127,14 @@ unique-used s h = ap (λ (x : ℕ). eqb x 0) (eqb-true (s .state) 2 h)
 
 pub shared-not-unique : (s : Shape) → shared s ≡ true → unique s ≡ false
 shared-not-unique s h = ap (λ (x : ℕ). eqb x 2) (eqb-true (s .state) 1 h)
+
+-- A shape in use is in one of the two states.
+pub shared-or-unique : {s : Shape} → GoodWords s → shared s ≡ not (unique s)
+shared-or-unique {s} w = go (w .state)
+  where
+    go : (shared s ≡ true) ⊎ (unique s ≡ true) → shared s ≡ not (unique s)
+    go (inl h) = h ∙ sym (ap not (shared-not-unique s h))
+    go (inr r) = ap (λ (x : ℕ). eqb x 1) (eqb-true (s .state) 2 r) ∙ sym (ap not r)
 
 -- A shape in use stands at a place.
 pub used-place : (m : Model) (n : ℕ) → Used m n → n ≢ 0

@@ -1,0 +1,4 @@
+pub mod States
+pub mod FullHolds
+pub mod Grantable
+pub mod Refused
