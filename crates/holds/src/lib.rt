@@ -1,9 +1,9 @@
 // Holds of shapes: which shapes a call may name, one hold more, one hold less.
 use rules::ChangeTransitionAction;
+use rules::DoneReply;
 use rules::GivenShape;
 use rules::Placement;
 use rules::Refusal;
-use rules::ReleaseReply;
 use rules::ShapeReply;
 use store::image::get_shape;
 use store::image::put_shape;
@@ -16,7 +16,7 @@ ghost use Rattle.store.specs.Model.{shapeAt};
 ghost use Rattle.store.specs.Layout.{parse};
 ghost use Rattle.store.specs.Image.{Formed, Place};
 ghost use Rattle.rules.specs.Calls.{unheld, grant, perform, hold, previous, release};
-ghost use Rattle.rules.specs.Replies.{Answers, shapeReply, releaseReply};
+ghost use Rattle.rules.specs.Replies.{Answers, shapeReply, doneReply};
 ghost use Rattle.theorems.specs.Facts.{Sound};
 ghost use Rattle.holds.specs.Granted.{InPlace, grantPlaced};
 
@@ -124,18 +124,18 @@ pub fn previous(image: &mut [u32], n: u32) -> ShapeReply
 }
 
 // "Release takes one."
-pub fn release(image: &mut [u32], n: u32) -> ReleaseReply
+pub fn release(image: &mut [u32], n: u32) -> DoneReply
     requires { ⌜ Formed (now image) ⌝ }
     ensures { λ r. ⌜
         Answers (now (image .entry)) (now (image .exit))
-        (perform (parse (now (image .entry))) (release n)) (releaseReply r)
+        (perform (parse (now (image .entry))) (release n)) (doneReply r)
         ⌝ }
 {
     if !is_held(image, n) {
-        return ReleaseReply::Refused(Refusal::NoShape);
+        return DoneReply::Refused(Refusal::NoShape);
     }
     let mut s = get_shape(image, n);
     s.holds -= 1;
     put_shape(image, n, s);
-    ReleaseReply::Releases
+    DoneReply::Succeeds
 }

@@ -10,7 +10,6 @@ use Rattle.lines.specs.declared.Command.the-variants.{Root, Unique, Inse
 use Rattle.lines.specs.declared.Command.the-variants.{Release, Sweep, BadLine}
 use Rattle.lines.specs.declared.reading.Numbers.{Numbers}
 use Rattle.lines.specs.declared.reading.Numbers.the-variants.{Zero, One, Two, Three, Bad}
-use Rattle.lines.specs.declared.replies.FourNumbers.{FourNumbers}
 
 -- The call that a line asks for, none of a bad line.
 abbrev pub commandCall : Command → Option Call
@@ -31,7 +30,3 @@ listed (One a) = some (a ∷ [])
 listed (Two a b) = some (a ∷ b ∷ [])
 listed (Three a b c) = some (a ∷ b ∷ c ∷ [])
 listed Bad = none
-
--- An answer's four numbers, in their order.
-abbrev pub numbersOf : FourNumbers → List ℕ
-numbersOf n = n .first ∷ n .second ∷ n .third ∷ n .fourth ∷ []

@@ -1,4 +1,4 @@
-// Document 01, "The step runner": one line of its input, and the four numbers of its answer.
+// Document 01, "The step runner": one line of its input read, and the four numbers of its answer written.
 use crate::reading::Numbers;
 use crate::reading::read_numbers;
 ghost use mathlib.Core.Path.{_≡_};
@@ -8,7 +8,7 @@ ghost use Rattle.rules.specs.Runner.{formed, lineCall};
 ghost use Rattle.lines.specs.Commands.{commandCall, listed};
 
 mod reading;
-pub mod replies;
+pub mod writing;
 
 // A key of a shape, and its new attributes.
 pub struct KeyChange {

@@ -6,8 +6,8 @@ use Prim.Native.Nat.{ℕ}
 use Rattle.store.specs.Model.{Model}
 use Rattle.rules.specs.declared.ShapeReply.{ShapeReply}
 use Rattle.rules.specs.declared.ShapeReply.the-variants.{Gives, Refused as no-shape}
-use Rattle.rules.specs.declared.ReleaseReply.{ReleaseReply}
-use Rattle.rules.specs.declared.ReleaseReply.the-variants.{Releases, Refused as not-released}
+use Rattle.rules.specs.declared.DoneReply.{DoneReply}
+use Rattle.rules.specs.declared.DoneReply.the-variants.{Succeeds, Refused as not-done}
 use Rattle.rules.specs.declared.SweepReply.{SweepReply}
 use Rattle.rules.specs.declared.SweepReply.the-variants.{Frees, Refused as not-swept}
 use Rattle.rules.specs.declared.LookupReply.{LookupReply}
@@ -29,9 +29,9 @@ abbrev pub shapeReply : ShapeReply → Reply
 shapeReply (Gives g) = Yes (Given (g .shape) (g .action) (g .transitions))
 shapeReply (no-shape r) = No r
 
-abbrev pub releaseReply : ReleaseReply → Reply
-releaseReply Releases = Yes Done
-releaseReply (not-released r) = No r
+abbrev pub doneReply : DoneReply → Reply
+doneReply Succeeds = Yes Done
+doneReply (not-done r) = No r
 
 abbrev pub sweepReply : SweepReply → Reply
 sweepReply (Frees f) = Yes (Freed (f .shapes) (f .tables))

@@ -129,16 +129,17 @@ actionNumber Remove = 1
 actionNumber Insert = 2
 
 -- "four numbers: refusal or 0, shape, action, transition count. `S` answers 0, shapes freed, tables freed, 0;
--- `F` answers four zeros." No line asks a question.
+-- `F` answers four zeros." No line asks a question; from C one is answered by 1, slot index and attributes, or zeros
+-- (lookup), by how many (key list), or by its number.
 abbrev pub fourNumbers : Reply → List ℕ
 fourNumbers (No r) = refusalNumber r ∷ 0 ∷ 0 ∷ 0 ∷ []
 fourNumbers (Yes (Given n action transitions)) = 0 ∷ n ∷ actionNumber action ∷ transitions ∷ []
 fourNumbers (Yes (Freed shapes tables)) = 0 ∷ shapes ∷ tables ∷ 0 ∷ []
 fourNumbers (Yes Done) = 0 ∷ 0 ∷ 0 ∷ 0 ∷ []
-fourNumbers (Yes (Found slot attributes)) = 0 ∷ 0 ∷ 0 ∷ 0 ∷ []
+fourNumbers (Yes (Found slot attributes)) = 0 ∷ 1 ∷ slot ∷ attributes ∷ []
 fourNumbers (Yes NotFound) = 0 ∷ 0 ∷ 0 ∷ 0 ∷ []
-fourNumbers (Yes (Listed count out)) = 0 ∷ 0 ∷ 0 ∷ 0 ∷ []
-fourNumbers (Yes (Number n)) = 0 ∷ 0 ∷ 0 ∷ 0 ∷ []
+fourNumbers (Yes (Listed count out)) = 0 ∷ count ∷ 0 ∷ 0 ∷ []
+fourNumbers (Yes (Number n)) = 0 ∷ n ∷ 0 ∷ 0 ∷ []
 
 -- "BadLine (`14 0 0 0`)"
 abbrev pub badLine : List ℕ

@@ -69,8 +69,8 @@ pub enum ShapeReply {
     Refused(Refusal),
 }
 
-pub enum ReleaseReply {
-    Releases,
+pub enum DoneReply {
+    Succeeds,
     Refused(Refusal),
 }
 

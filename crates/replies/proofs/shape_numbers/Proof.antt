@@ -1,0 +1,33 @@
+-- `replies::shape_numbers` meets its contract. Assumes nothing.
+use borrow.Author.Needs.{needs}
+use Rattle.replies.proofs.shape_numbers.Statement.{statement}
+use Rattle.replies.proofs.shape_numbers.Tie as tie
+
+enum-known-reply : tie.Need-enum-known-reply
+enum-known-reply c = search needs
+
+action-number-requires : tie.Need-action-number-requires
+action-number-requires c κs = search needs
+
+enum-known-reply-2 : tie.Need-enum-known-reply-2
+enum-known-reply-2 c = search needs
+
+refused-requires : tie.Need-refused-requires
+refused-requires c κs = search needs
+
+returns : tie.Need-returns
+returns c = rw (c .before .before .reply .given .1, c .action-number .ensures)
+
+returns-2 : tie.Need-returns-2
+returns-2 c = rw (c .before .before .reply2 .given .1) (c .refused .ensures)
+
+pub shape-numbers-spec : {M : Type 1} → statement M
+shape-numbers-spec =
+    tie.close
+    (tie.spec
+    enum-known-reply
+    action-number-requires
+    enum-known-reply-2
+    refused-requires
+    returns
+    returns-2)

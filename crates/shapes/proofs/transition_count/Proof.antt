@@ -1,0 +1,28 @@
+-- `shapes::transition_count` meets its contract. Assumes nothing.
+use mathlib.Core.Path.{sym, _∙_}
+use borrow.Author.Tests.{not-true, not-false}
+use Rattle.shapes.specs.Called.{ready, answered, damaged}
+use borrow.Author.Needs.{needs}
+use Rattle.shapes.proofs.transition_count.Statement.{statement}
+use Rattle.shapes.proofs.transition_count.Tie as tie
+
+is-sound-requires : tie.Need-is-sound-requires
+is-sound-requires c κs = search needs
+
+returns : tie.Need-returns
+returns c = damaged _ _ (sym (c .before .is-sound .ensures) ∙ not-true _ (c .if1 .taken))
+
+transition-count-requires : tie.Need-transition-count-requires
+transition-count-requires c κs =
+    let is-sound = c .before .is-sound in
+    ready _ (sym (is-sound .ensures) ∙ not-false _ (c .if1 .left)) .0
+
+returns-2 : tie.Need-returns-2
+returns-2 c =
+    let if1 = c .before .if1 in
+    let is-sound = c .before .before .is-sound in
+    answered _ (sym (is-sound .ensures) ∙ not-false _ (if1 .left)) _ _ _ (c .transition-count .ensures)
+
+pub transition-count-spec : {M : Type 1} → statement M
+transition-count-spec =
+    tie.close (tie.spec is-sound-requires returns transition-count-requires returns-2)
