@@ -2,7 +2,7 @@
 -- Assumes nothing.
 use mathlib.Core.Bool.{Bool, true, false, _&&_, not, true≢false}
 use mathlib.Core.List.{List}
-use mathlib.Core.Path.{_≡_, refl, _∙_, ap, ap₂}
+use mathlib.Core.Path.{_≡_, refl, sym, _∙_, ap, ap₂}
 use Prim.Native.Nat.{ℕ}
 use Rattle.slot.specs.If.{if_then_else_}
 use Rattle.store.specs.Model.{Model}
@@ -25,6 +25,11 @@ pair ws r = (ws, r)
 -- Every lent word afterwards and the answer, for every list of words.
 abbrev pub Calls : (before after : List ℕ) → Call → Reply → Type 0
 Calls before after c r = pair after r ≡ callOn before c
+
+-- No other words and no other answer meet that.
+pub one-answer : (before : List ℕ) (c : Call) {after after₁ : List ℕ} {r r₁ : Reply} → Calls before after c r
+    → Calls before after₁ c r₁ → (after ≡ after₁) × (r ≡ r₁)
+one-answer before c this that = let same = this ∙ sym that in (ap (λ p. p .0) same, ap (λ p. p .1) same)
 
 abbrev pub Formats : Limits → (before after : List ℕ) → Reply → Type 0
 Formats l before after r = pair after r ≡ format l before
