@@ -10,6 +10,7 @@ pub enum Line {
     Release { handle: u32 },
     Sweep,
     ShowLive,
+    NewRun,
 }
 
 /// A transition from the shape of a handle.
@@ -47,6 +48,7 @@ pub fn parse(bytes: &[u8]) -> Option<Line> {
         (b"F", &[handle]) => Some(Line::Release { handle }),
         (b"S", []) => Some(Line::Sweep),
         (b"?", []) => Some(Line::ShowLive),
+        (b"N", []) => Some(Line::NewRun),
         _ => None,
     }
 }

@@ -12,13 +12,13 @@ pub(crate) use object::JsObject;
 
 use std::{
     env,
-    io::{self, BufRead, stdin, stdout},
+    io::{self, BufRead, BufWriter, stdin, stdout},
     process::ExitCode,
 };
 
-use run::{Next, Run};
+use run::{Next, Options, Run};
 
-const USAGE: &str = "usage: oracle --free-at-once|--free-at-sweep [--catch]  < lines";
+const USAGE: &str = "usage: oracle --free-at-once|--free-at-sweep [--catch|--brief]  < lines";
 
 const EXIT_LOOKUP_DISAGREES: u8 = 1;
 const EXIT_NOT_RUN: u8 = 2;
@@ -27,26 +27,32 @@ const EXIT_PANIC_CAUGHT: u8 = 3;
 fn main() -> ExitCode {
     let options: Vec<String> = env::args().skip(1).collect();
     let options: Vec<&str> = options.iter().map(String::as_str).collect();
-    let catch = match options.as_slice() {
-        ["--free-at-once" | "--free-at-sweep"] => false,
-        ["--free-at-once" | "--free-at-sweep", "--catch"] => true,
-        _ => {
-            eprintln!("{USAGE}");
-            return ExitCode::from(EXIT_NOT_RUN);
-        }
+    let (collector, rest) = options.split_first().unwrap_or((&"", &[]));
+    let (catch, brief) = match rest {
+        [] => (false, false),
+        ["--catch"] => (true, false),
+        ["--brief"] => (false, true),
+        _ => return usage(),
     };
-    if options[0] == "--free-at-sweep" {
-        boa_gc::kept::free_at_sweep();
+    match *collector {
+        "--free-at-once" => {}
+        "--free-at-sweep" => boa_gc::kept::free_at_sweep(),
+        _ => return usage(),
     }
-    run(catch).unwrap_or_else(|error| {
+    run(Options { catch, brief }).unwrap_or_else(|error| {
         eprintln!("oracle: {error}");
         ExitCode::from(EXIT_NOT_RUN)
     })
 }
 
-fn run(catch: bool) -> io::Result<ExitCode> {
+fn usage() -> ExitCode {
+    eprintln!("{USAGE}");
+    ExitCode::from(EXIT_NOT_RUN)
+}
+
+fn run(options: Options) -> io::Result<ExitCode> {
     let mut input = stdin().lock();
-    let mut run = Run::new(stdout().lock(), catch);
+    let mut run = Run::new(BufWriter::new(stdout().lock()), options);
     let mut line = Vec::new();
     while input.read_until(b'\n', &mut line)? > 0 {
         if run.answer(&line)? == Next::Panicked {
@@ -55,7 +61,7 @@ fn run(catch: bool) -> io::Result<ExitCode> {
         }
         line.clear();
     }
-    run.check_all()?;
+    run.finish()?;
     Ok(if run.lookups_agree {
         ExitCode::SUCCESS
     } else {

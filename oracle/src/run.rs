@@ -22,10 +22,16 @@ use crate::{
     refusal::Refusal,
 };
 
+pub struct Options {
+    /// Make the calls too that the rules refuse, and catch their panics.
+    pub catch: bool,
+    /// Say of a shape only what a step runner can say of it.
+    pub brief: bool,
+}
+
 pub struct Run<W> {
     out: W,
-    /// Make the calls too that the rules refuse, and catch their panics.
-    catch: bool,
+    options: Options,
     live: BTreeMap<u32, Shape>,
     last_handle: u32,
     /// Every good key of the run so far, asked for in each shape.
@@ -41,10 +47,10 @@ pub enum Next {
 }
 
 impl<W: Write> Run<W> {
-    pub fn new(out: W, catch: bool) -> Self {
+    pub fn new(out: W, options: Options) -> Self {
         Self {
             out,
-            catch,
+            options,
             live: BTreeMap::new(),
             last_handle: 0,
             keys: BTreeSet::new(),
@@ -64,12 +70,19 @@ impl<W: Write> Run<W> {
             },
             Some(Line::Sweep) => self.sweep()?,
             Some(Line::ShowLive) => self.show_live()?,
+            Some(Line::NewRun) => self.new_run()?,
         }
         Ok(Next::GoOn)
     }
 
+    /// After the last line.
+    pub fn finish(&mut self) -> Result<()> {
+        self.check_all()?;
+        self.out.flush()
+    }
+
     /// Tables are shared, so a step may spoil a shape that was right before.
-    pub fn check_all(&mut self) -> Result<()> {
+    fn check_all(&mut self) -> Result<()> {
         let live = self.live.clone();
         live.iter()
             .try_for_each(|(handle, shape)| self.check_lookups(*handle, shape))
@@ -77,7 +90,7 @@ impl<W: Write> Run<W> {
 
     fn answer_call(&mut self, call: Call) -> Result<Next> {
         self.note_key(call.kind);
-        match calls::make(&call, self.live.get(&call.handle), self.catch) {
+        match calls::make(&call, self.live.get(&call.handle), self.options.catch) {
             Answer::Shape { shape, action } => self.grant(shape, action)?,
             Answer::Refused(refusal) => self.refuse(refusal)?,
             Answer::Panicked(message) => {
@@ -110,10 +123,18 @@ impl<W: Write> Run<W> {
     }
 
     fn sweep(&mut self) -> Result<()> {
-        let tables = kept_tables();
-        let shapes_freed = kept::sweep();
-        let tables_freed = tables - kept_tables();
-        writeln!(self.out, "swept {shapes_freed} {tables_freed}")
+        let (shapes, tables) = freed_by_a_sweep();
+        writeln!(self.out, "swept {shapes} {tables}")
+    }
+
+    /// Nothing is left of the run so far.
+    fn new_run(&mut self) -> Result<()> {
+        self.check_all()?;
+        self.live.clear();
+        self.last_handle = 0;
+        self.keys.clear();
+        let (shapes, tables) = freed_by_a_sweep();
+        writeln!(self.out, "ended {shapes} {tables}")
     }
 
     fn show_live(&mut self) -> Result<()> {
@@ -124,14 +145,20 @@ impl<W: Write> Run<W> {
     }
 
     fn show(&mut self, handle: u32, shape: &Shape, action: u8) -> Result<()> {
+        let count = transition_count(shape);
+        let same = self.same_shape_before(handle, shape);
+        if self.options.brief {
+            return writeln!(
+                self.out,
+                "shape {handle} count {count} action {action} same {same}"
+            );
+        }
         let form = if shape.is_shared() {
             "shared"
         } else {
             "unique"
         };
-        let count = transition_count(shape);
         let proto = prototype_number(&shape.prototype());
-        let same = self.same_shape_before(handle, shape);
         let entries = list(
             entries(shape)
                 .into_iter()
@@ -176,6 +203,13 @@ impl<W: Write> Run<W> {
         }
         Ok(())
     }
+}
+
+/// How many shapes, and how many tables.
+fn freed_by_a_sweep() -> (usize, usize) {
+    let tables = kept_tables();
+    let shapes_freed = kept::sweep();
+    (shapes_freed, tables - kept_tables())
 }
 
 fn slot_text(slot: Option<Slot>) -> String {

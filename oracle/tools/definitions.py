@@ -267,10 +267,11 @@ def describe(held, number, row):
 
 
 def hold_counters(run):
-    """Of the profile `counters`. Its 256 edges are too many for the soundness test at each line, and for a sweep after
-    each. They are just enough, if dead ones are pruned at 255; its shapes are swept as they come, so there are few."""
+    """Of the profile `counters`. Its edges are too many for the soundness test at each line, and for a sweep after
+    each."""
     late = hear_both(run)[0]
-    return Held(run, (late,), (limits(32, 32, late.keys, 256),), "replayUntested")
+    shapes, tables, edges = run.room
+    return Held(run, (late,), (limits(shapes, tables, late.keys, edges),), "replayUntested")
 
 
 def trail_length(run):
@@ -311,7 +312,7 @@ def every_theorems():
     table, sizes = every.all_digests(COLLECTORS[0])
     if every.all_digests(COLLECTORS[1])[0] != table:
         raise Trouble("the two collectors differ in a sequence of four calls")
-    image = limits(sizes.shapes, sizes.tables, every.KEYS, sizes.shapes)
+    image = limits(sizes.shapes, sizes.tables, len(every.KEYS), sizes.shapes)
     starts = {"R": "newRoot", "U": "newUnique"}
     theorems = []
     for (start, first), values in table.items():

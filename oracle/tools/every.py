@@ -1,15 +1,27 @@
-"""Every sequence of four calls, from a root and from a unique, each to the newest shape."""
+"""Every sequence of so many calls, from a root and from a unique, each to the newest shape."""
 import functools
 import itertools
 import re
 from dataclasses import dataclass
 
-from profiles import EVERY_CALLS, EVERY_DEPTH, EVERY_STARTS, call_line, sequences
-from runs import Run, answer_numbers, ask
+from profiles import A, B
+from runs import Run, answer_numbers, answers_of_each, ask, many_text
+
+KEYS = (A, B)
+ATTRIBUTES = (7, 5, 14)
+CALLS = (
+    [("I", key, attributes) for key in KEYS for attributes in ATTRIBUTES]
+    + [("C", key, attributes) for key in KEYS for attributes in ATTRIBUTES]
+    + [("D", key) for key in KEYS]
+    + [("P", prototype) for prototype in (8, 9)]
+)
+STARTS = ("R", "U")
+# How many calls the sequences have that the definitions are compared on.
+DEFINITIONS_DEPTH = 4
 
 
-KEYS = 2
-COUNT = len(EVERY_STARTS) * len(EVERY_CALLS) ** EVERY_DEPTH
+def count(depth):
+    return len(STARTS) * len(CALLS) ** depth
 
 
 def refused(start, keys, call):
@@ -28,20 +40,27 @@ def keys_after(keys, call):
     return keys - {call[1]} if call[0] == "D" else keys
 
 
-def sequence_lines(start, calls, first_handle=1):
-    """The lines of a sequence whose first handle has this number, and how many handles they make."""
-    lines, keys, newest = [start], frozenset(), first_handle
+def sequence_lines(start, calls):
+    lines, keys, newest = [start], frozenset(), 1
     for call in calls:
-        lines.append(call_line(call, newest))
+        kind, *numbers = call
+        lines.append(" ".join([kind, str(newest), *map(str, numbers)]))
         if not refused(start, keys, call):
             keys = keys_after(keys, call)
             newest += 1
-    return lines, newest - first_handle + 1
+    return lines
 
 
-def all_runs():
-    for number, (start, calls) in enumerate(sequences()):
-        yield Run(f"every-{number}", sequence_lines(start, calls)[0])
+def runs_below(start, first, depth):
+    """Every sequence that starts so, the last call changing fastest."""
+    for number, rest in enumerate(itertools.product(CALLS, repeat=depth - 1)):
+        calls = (CALLS[first], *rest)
+        yield Run(f"every-{start}-{first}-{number}", sequence_lines(start, calls))
+
+
+def all_runs(depth):
+    for start, first in itertools.product(STARTS, range(len(CALLS))):
+        yield from runs_below(start, first, depth)
 
 
 # ## Digests: all sequences below two calls, as one number. As `every` of replay/Replay.antt makes them.
@@ -68,23 +87,21 @@ def lists_numbers(text):
     return [len(numbers) // 3, *numbers, *(int(key) for key in keys.split())]
 
 
-def row_of(line, first_handle):
-    """What an answer says, its handles counted from the sequence's first: its numbers, and its handle if it has one."""
+def row_of(line):
+    """What an answer says: its numbers, and its handle if it has one."""
     if not line.startswith("shape "):
         return answer_numbers(line), 0
     words = line.split(" ", 11)
-    same = int(words[10])
-    numbers = [1 if words[2] == "shared" else 0, int(words[4]), int(words[6]), int(words[8]),
-               same and same - first_handle + 1]
-    return [0, *numbers, *lists_numbers(words[11])], int(words[1]) - first_handle + 1
+    numbers = [1 if words[2] == "shared" else 0, *(int(words[at]) for at in (4, 6, 8, 10))]
+    return [0, *numbers, *lists_numbers(words[11])], int(words[1])
 
 
-def sequence_digest(answers, live, first_handle):
+def sequence_digest(answers, live):
     value = 0
     for line in answers:
-        value = digest_row(value, row_of(line, first_handle)[0])
+        value = digest_row(value, row_of(line)[0])
     for line in live:
-        numbers, handle = row_of(line, first_handle)
+        numbers, handle = row_of(line)
         value = digest_row(value, [handle, *numbers[1:]])
     return value
 
@@ -102,25 +119,17 @@ class Sizes:
 
 
 def digests_below(collector, start, first, sizes):
-    """The digest below each second call. One process makes all these sequences, each from a start of its own."""
-    text, spans, handle = [], [], 1
-    for rest in itertools.product(EVERY_CALLS, repeat=EVERY_DEPTH - 1):
-        lines, made = sequence_lines(start, (first, *rest), handle)
-        text += [*lines, "?", *(f"F {h}" for h in range(handle, handle + made)), "S"]
-        spans.append((handle, made))
-        handle += made
-    answered = ask(collector, "\n".join(text) + "\n")
-    digests, at, lines = [], 0, EVERY_DEPTH + 1
-    per_second = len(spans) // len(EVERY_CALLS)
-    for number, (first_handle, made) in enumerate(spans):
+    """The digest below each second call."""
+    below = list(runs_below(start, first, DEFINITIONS_DEPTH))
+    each = answers_of_each(ask(collector, many_text(below, shown=True)))
+    digests, lines = [], DEFINITIONS_DEPTH + 1
+    per_second = len(below) // len(CALLS)
+    for number, answered in enumerate(each):
         if number % per_second == 0:
             digests.append(0)
-        live = answered[at + lines + 1: at + lines + 1 + made]
-        value = sequence_digest(answered[at: at + lines], live, first_handle)
+        value = sequence_digest(answered[:lines], answered[lines + 1: -1])
         digests[-1] = digest(digests[-1], [value])
-        at += lines + 1 + 2 * made
-        sizes.widen(answer_numbers(answered[at]))
-        at += 1
+        sizes.widen(answer_numbers(answered[-1]))
     return digests
 
 
@@ -128,7 +137,6 @@ def all_digests(collector):
     """By start, first and second call; and the sizes of an image that has room for each sequence."""
     sizes = Sizes()
     table = {}
-    for start in EVERY_STARTS:
-        for number, first in enumerate(EVERY_CALLS):
-            table[start, number] = digests_below(collector, start, first, sizes)
+    for start, first in itertools.product(STARTS, range(len(CALLS))):
+        table[start, first] = digests_below(collector, start, first, sizes)
     return table, sizes

@@ -313,15 +313,24 @@ def refused(draft):
 
 # ## The long profiles
 
-def limit(draft):
-    """By prototypes to some transitions below 1,024, and on from the end of that trail by everything else."""
+def trail(draft, transitions):
+    """By prototypes to so many transitions, and on from the end of that trail by everything else."""
     handle = draft.root()
-    for number in range(draft.random.randint(LIMIT - 6, LIMIT - 3)):
+    for number in range(transitions):
         handle = draft.prototype(handle, number % 7)
     draft.forget_before(handle)
     for _ in range(16):
         weights = {"insert": 8, "change": 7, "remove": 1, "prototype": 6}
         one_of(draft, weights, ALL_KEYS, [DATA, DATA_2, DATA_2, ACCESSOR])
+
+
+def limit(draft):
+    trail(draft, draft.random.randint(LIMIT - 6, LIMIT - 3))
+
+
+def trails(draft):
+    """As long as the step runner's image has room for all that comes of it."""
+    trail(draft, draft.random.randint(100, 160))
 
 
 def counters(draft):
@@ -350,48 +359,49 @@ SHORT = {
     "sweeps": sweeps,
     "refused": refused,
 }
-LONG = {"limit": limit, "counters": counters}
+LONG = {"limit": limit, "trails": trails, "counters": counters}
 PROFILES = {**SHORT, **LONG}
 
 
+def generate_one(profile, seed, number):
+    """The same run for the same three, on every machine."""
+    draft = Draft(random.Random(f"{profile} {seed} {number}"))
+    PROFILES[profile](draft)
+    if profile in SHORT and number % 2 == 1:
+        draft.release_all()
+    run = Run(f"{profile}-{seed}-{number}", draft.lines)
+    if profile == "refused" and number % 5 == 4:
+        run.unended = "R"
+    if profile == "counters":
+        # Its 256 edges are just enough, if dead ones are pruned at 255.
+        run.room = (32, 32, 256)
+    return run
+
+
 def generate(profile, seed, count):
-    """The same runs for the same three, on every machine."""
-    runs = []
-    for number in range(count):
-        draft = Draft(random.Random(f"{profile} {seed} {number}"))
-        PROFILES[profile](draft)
-        if profile in SHORT and number % 2 == 1:
-            draft.release_all()
-        run = Run(f"{profile}-{seed}-{number}", draft.lines)
-        if profile == "refused" and number % 5 == 4:
-            run.unended = "R"
-        runs.append(run)
-    return runs
+    return [generate_one(profile, seed, number) for number in range(count)]
+
+
+def by_hand():
+    return read(HAND_WRITTEN.read_text())
+
+
+def is_short(run):
+    return len(run.lines) <= LONGEST_SHORT
 
 
 def short_runs(seed, count):
     """The short ones of those written by hand, and at least so many over all short profiles."""
     each = -(-count // len(SHORT))
-    by_hand = [run for run in read(HAND_WRITTEN.read_text()) if len(run.lines) <= LONGEST_SHORT]
-    return by_hand + [run for profile in SHORT for run in generate(profile, seed, each)]
+    return [*filter(is_short, by_hand()), *(run for profile in SHORT for run in generate(profile, seed, each))]
 
 
-# ## Every short sequence
-
-EVERY_CALLS = (
-    [("I", key, attributes) for key in (A, B) for attributes in (7, 5, 14)]
-    + [("C", key, attributes) for key in (A, B) for attributes in (7, 5, 14)]
-    + [("D", key) for key in (A, B)]
-    + [("P", prototype) for prototype in (8, 9)]
-)
-EVERY_STARTS = ("R", "U")
-EVERY_DEPTH = 4
-
-
-def sequences():
-    """Every start with every sequence of calls, the last call changing fastest."""
-    return itertools.product(EVERY_STARTS, itertools.product(EVERY_CALLS, repeat=EVERY_DEPTH))
-
-
-def call_line(call, handle):
-    return " ".join([call[0], str(handle)] + [str(number) for number in call[1:]])
+def short_lines(seed, lines):
+    """Of all short profiles in turn, so many runs that they have at least so many lines."""
+    for number in itertools.count():
+        for profile in SHORT:
+            if lines <= 0:
+                return
+            run = generate_one(profile, seed, number)
+            lines -= len(run.lines)
+            yield run

@@ -26,6 +26,7 @@ class Run:
     name: str
     lines: list
     unended: str = ""  # a last line without its line feed, if there is one
+    room: tuple = ()  # S, T and E of an image that suffices, where the run sweeps so much that few are needed at a time
 
     def text(self):
         return "".join(line + "\n" for line in self.lines) + self.unended
@@ -67,6 +68,25 @@ def read(text):
     return runs
 
 
+def many_text(runs, shown=False):
+    """Runs one after another, begun and ended by `N`, and what is live shown after each. Only the last of them may have
+    an unended line."""
+    at_end = "?\n" if shown else ""
+    texts = ["N\n" + "".join(f"{line}\n" for line in run.lines) + at_end for run in runs]
+    return "".join(texts) + "N\n" + runs[-1].unended
+
+
+def answers_of_each(answered):
+    """The answers to `many_text`, line by line, for each run; the last of each is the line `ended ..`."""
+    each = []
+    for line in answered.splitlines():
+        if each:
+            each[-1].append(line)
+        if line.startswith("ended "):
+            each.append([])
+    return each[:-1]
+
+
 # ## The oracle
 
 def build(source):
@@ -75,13 +95,13 @@ def build(source):
         raise Trouble(f"oracle/build {source} failed:\n{built.stdout}{built.stderr}")
 
 
-def ask(collector, text):
-    """The oracle's answers to a text, line by line."""
+def ask(collector, text, *options):
+    """The oracle's answers to a text."""
     program = ORACLE_FOLDER / "target" / "debug" / "oracle"
-    done = subprocess.run([program, collector], input=text, capture_output=True, text=True)
+    done = subprocess.run([program, collector, *options], input=text, capture_output=True, text=True)
     if done.returncode != 0:
         raise Trouble(f"the oracle ended with {done.returncode}: {done.stderr}{done.stdout[-500:]}")
-    return done.stdout.splitlines()
+    return done.stdout
 
 
 def bracketed(words):
@@ -110,7 +130,7 @@ def answer_numbers(line):
         return [int(rest)]
     if kind == "released":
         return [0]
-    if kind == "swept":
+    if kind in ("swept", "ended"):
         return [0] + [int(number) for number in rest.split()]
     if kind == "shape":
         return [0] + shape_numbers(line)[1]
@@ -121,12 +141,16 @@ def entry_count(answer):
     return answer[6] if len(answer) > 6 else 0
 
 
+def freed(answers):
+    """How many shapes and tables the sweeps among these answers free."""
+    swept = [answer for answer in answers if len(answer) == 3]
+    return sum(shapes for _, shapes, _ in swept), sum(tables for _, _, tables in swept)
+
+
 def made(lines):
-    """How many shapes and tables these lines make in all: what sweeps free once every handle is released."""
-    releases = [f"F {handle}" for handle in range(1, len(lines) + 1)]
-    swept = [line.split()[1:] for line in ask("--free-at-sweep", "\n".join([*lines, *releases, "S"]) + "\n")
-             if line.startswith("swept ")]
-    return sum(int(shapes) for shapes, _ in swept), sum(int(tables) for _, tables in swept)
+    """How many shapes and tables these lines make in all: what sweeps free, once every handle is released."""
+    answers = [answer_numbers(line) for line in ask("--free-at-sweep", "\n".join([*lines, "N"]) + "\n").splitlines()]
+    return freed(answers)
 
 
 def swept_after_each(lines):
@@ -137,7 +161,7 @@ def swept_after_each(lines):
 def hear(run, collector):
     """Makes a run with the oracle, and shows all live handles at its end."""
     count = len(run.lines)
-    answered = ask(collector, "\n".join(run.lines + ["?"]) + "\n")
+    answered = ask(collector, "\n".join(run.lines + ["?"]) + "\n").splitlines()
     answers = [answer_numbers(line) for line in answered[:count]]
     live = []
     for line in answered[count + 1:]:
@@ -145,7 +169,7 @@ def hear(run, collector):
         live.append([handle] + numbers)
     if run.unended:
         # `?` cannot follow such a line, so its answer is heard by itself.
-        last = answer_numbers(ask(collector, run.text())[-1])
+        last = answer_numbers(ask(collector, run.text()).splitlines()[-1])
         if last != BAD_LINE:
             raise Trouble(f"{run.name}: an unended line was answered {last}")
         answers.append(last)

@@ -46,7 +46,7 @@ sets-append ws at [] ys = rw add-zero
 sets-append ws at (x ∷ xs) ys = rw (add-suc, ← suc-add) (sets-append (set ws at x) (suc at) xs ys)
 
 -- A text, and then another.
-written-then : {before between after : List ℕ} {at : ℕ} {xs : List ℕ} {seam : ℕ} {ys : List ℕ} {end : ℕ}
+pub written-then : {before between after : List ℕ} {at : ℕ} {xs : List ℕ} {seam : ℕ} {ys : List ℕ} {end : ℕ}
     → Written before between at xs seam → Written between after seam ys end
     → Written before after at (xs ++ ys) end
 written-then {before} {between} {after} {at} {xs} {seam} {ys} {end} w v =

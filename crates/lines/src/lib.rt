@@ -7,7 +7,7 @@ ghost use mathlib.Core.Option.{some};
 ghost use Rattle.rules.specs.Runner.{formed, lineCall};
 ghost use Rattle.lines.specs.Commands.{commandCall, listed};
 
-mod reading;
+pub mod reading;
 pub mod writing;
 
 // A key of a shape, and its new attributes.

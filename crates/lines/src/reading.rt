@@ -13,12 +13,12 @@ const SPACE: u8 = b' ';
 const BOUND: u64 = 1 << 32;
 
 // A number, and the position after it.
-struct NumberAt {
-    value: u32,
-    end: usize,
+pub struct NumberAt {
+    pub value: u32,
+    pub end: usize,
 }
 
-enum NumberRead {
+pub enum NumberRead {
     Reads(NumberAt),
     Bad,
 }
@@ -51,7 +51,7 @@ fn is_digit(byte: u8) -> bool
 }
 
 // The number at `start`, of one digit at least.
-fn read_number(line: &[u8], start: usize) -> NumberRead
+pub fn read_number(line: &[u8], start: usize) -> NumberRead
     requires { ⌜ start ≤ length (now line) ⌝ }
     ensures { λ r. ⌜ ReadsOn (now (line .entry)) start r ⌝ }
 {

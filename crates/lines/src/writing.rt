@@ -43,6 +43,7 @@ pub fn write_reply(
         Written (now (out .entry)) (now (out .exit)) at
         (replyText (first ∷ second ∷ third ∷ fourth ∷ [])) r
         ⌝ }
+    ensures { λ r. ⌜ r ≤ at + 44 ⌝ }
 {
     let second_at = write_ended(out, at, first, b' ');
     let third_at = write_ended(out, second_at, second, b' ');

@@ -1,5 +1,6 @@
 -- `lines::writing::write_reply` meets its contract. Assumes nothing.
 use mathlib.Core.Path.{_∙_}
+use native.Mathlib.Omega.{arith}
 use borrow.Author.Needs.{needs}
 use Rattle.lines.specs.Writing.{four-written}
 use Rattle.lines.proofs.writing.write_reply.Statement.{statement}
@@ -31,7 +32,10 @@ returns c =
     let third = c .before .before .before .before .before .before in
     let second = third .before .before .before .before in
     let first = second .before .before .before .before .write-ended .ensures in
-    four-written first (second .write-ended2 .ensures) (third .write-ended3 .ensures) fourth
+    let short = third .write-ended3 .ensures .short in (
+      four-written first (second .write-ended2 .ensures) (third .write-ended3 .ensures) fourth,
+      omega (arith, fourth .short, short, second .write-ended2 .ensures .short, first .short),
+    )
 
 pub write-reply-spec : {M : Type 1} → statement M
 write-reply-spec =

@@ -1,0 +1,3 @@
+pub mod Answering
+pub mod Input
+pub mod Taking
