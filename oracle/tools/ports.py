@@ -3,16 +3,20 @@
 A driver (drivers/) stands between: it makes the oracle's lines with the port, and prints the oracle's answers.
 """
 import itertools
+import os
 import re
 import shlex
 import shutil
 import subprocess
 import tempfile
+from multiprocessing.pool import ThreadPool
 
 from runs import ORACLE_FOLDER, Trouble, answer_numbers, answers_of_each, ask, freed, many_text
 
 ROOT = ORACLE_FOLDER.parent
 RUNS_PER_PROCESS = 4096
+# How many calls the sequences of `--every` have.
+EVERY_DEPTH = 5
 # The images of the C calls are just large enough, twice or three times as large, in turn.
 LARGEST_FACTOR = 3
 
@@ -47,7 +51,6 @@ class StepRunner:
 
     oracle_options = ["--brief"]
     shows_live = False
-    every_depth = 5
     # Its image has no room for 1,024 transitions.
     long_runs = {"trails": 500, "counters": 200}
 
@@ -72,7 +75,6 @@ class CCalls:
     oracle_options = []
     shows_live = True
     # Each call and question tests the whole image, so there are fewer of these.
-    every_depth = 4
     long_runs = {"limit": 2, "trails": 20, "counters": 2}
 
     def __init__(self):
@@ -117,6 +119,15 @@ def complaint(port, part):
     said = ask("--free-at-sweep", text, *port.oracle_options)
     answered = port.answers(text, part, said)
     return None if answered == said else first_difference(part, said, answered)
+
+
+def complaints(port, runs):
+    """The parts of some runs, each with its complaint: as many at once as there are processors."""
+    at_once = os.cpu_count() or 1
+    remaining = parts(runs)
+    with ThreadPool(at_once) as pool:
+        while some := list(itertools.islice(remaining, at_once)):
+            yield from zip(some, pool.map(lambda part: complaint(port, part), some))
 
 
 def first_difference(part, said, answered):
