@@ -1,12 +1,13 @@
 -- What the code of the plan answers.
 -- Assumes nothing.
-use mathlib.Core.Bool.{Bool}
+use mathlib.Core.Bool.{Bool, false}
 use mathlib.Core.List.{List}
 use mathlib.Core.Path.{_≡_, refl, sym, ap, _∙_}
-use Prim.Native.Nat.{ℕ, _+_, _-_}
+use Prim.Native.Nat.{ℕ, _+_, _-_, _≤_}
+use native.Mathlib.Omega.{arith}
 use lib.Dec.{eqb}
 use lib.ListN.{length, drop, length-drop, length-map}
-use lib.Seq.{drop-drop}
+use lib.Seq.{drop-drop, drop-length}
 use Rattle.store.specs.Model.{Model, shapeAt}
 use Rattle.rules.specs.declared.Refusal.{Refusal}
 use Rattle.rules.specs.Placing.{stepIn}
@@ -83,3 +84,17 @@ module _ (ws : List ℕ) (start : ℕ) (m : Model) (n : ℕ)
 
       pub plan-passes : {r : Room} → y ≡ Left r → Answers (planned.Passes way)
       plan-passes told = rw (gave, told, ← followed)
+
+-- All steps go along live edges, and nothing is converted: nothing is made.
+module _ (ws : List ℕ) (start : ℕ) (m : Model) (n : ℕ) (inside : start ≤ length (records ws)) where
+  abbrev steps-left : List Step
+  steps-left = drop start (stepsIn ws)
+
+  pub nothing-new : {way : Way} → way ≡ follow steps-left m n → {count : ℕ} → count ≡ length (records ws)
+      → way .found ≡ count - start → {limit : Bool} → limit ≡ eqb (shapeAt m n .transitions + (count - start)) 1024
+      → limit ≡ false → planned.Passes way ≡ plannedOf (planLimited m n steps-left) (follow steps-left m n)
+  nothing-new {way} followed {count} counted found tested none =
+      let long = length-map (records ws) stepIn in
+      let all : start + way .found ≡ length (stepsIn ws) = omega arith in
+      plan-passes ws start m n followed {x = Left (roomAt m (way .place) 0)} (rw (all, drop-length (stepsIn ws)))
+      counted tested refl {y = Left (roomAt m (way .place) 0)} (rw none) refl

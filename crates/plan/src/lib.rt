@@ -91,7 +91,12 @@ pub fn plan_limited(image: &[u32], from: u32, steps: &[u32], start: usize) -> Pl
         ⌝ }
 {
     let way = follow(image, from, steps, start);
-    let limit = at_limit(image, from, step_count(steps) - start);
+    let count = step_count(steps) - start;
+    let limit = at_limit(image, from, count);
+    // What is free is not counted where nothing is made.
+    if (way.found == count) & !limit {
+        return Planned::Passes(way);
+    }
     match plan_new(image, way.place, steps, start + way.found) {
         Spending::Refused(refusal) => Planned::Refused(refusal),
         Spending::Left(room) => match converted(limit, room) {

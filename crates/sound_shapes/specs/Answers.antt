@@ -6,18 +6,15 @@ use mathlib.Core.List.{[], _∷_}
 use Prim.Native.Nat.{ℕ, _≤_}
 use borrow.Author.Tests.{ne-eqb}
 use lib.Dec.{eqb}
-use lib.ListN.{length, drop}
+use lib.ListN.{length}
 use Rattle.store.specs.Lists.{zeros}
-use Rattle.store.specs.Model.{Model, freeShape, freeTable, shapeAt, tableAt, edgeAt}
+use Rattle.store.specs.Model.{Model, freeShape, freeTable, shapeAt, tableAt}
 use Rattle.store.specs.ListLaws.{eqb-sym}
 use Rattle.store.specs.declared.Shape.{Shape}
-use Rattle.store.specs.declared.Edge.{Edge}
 use Rattle.rules.specs.Shapes.{isRoot, tableOf}
 use Rattle.rules.specs.Sound.{inRange}
 use Rattle.rules.specs.InUse.{shape-ranges}
 use Rattle.sound_shapes.specs.Tests.{shapeZeroIfFree, rootZero, ownFields, goodShape}
-use Rattle.sound_shapes.specs.Tests.{differs, passes}
-use Rattle.sound_shapes.specs.declared.Sentence.the-variants.{EdgesDiffer}
 
 -- ## Shapes
 
@@ -64,15 +61,3 @@ module _ (m : Model) (n : ℕ) {s : Shape} (read : s ≡ shapeAt m n) where
           → r ≡ ownFields long s → r ≡ goodShape m (shapeAt m n)
       fields-answer e long answer =
           rw (← read, ne-eqb (s .state) 0 inUse, ← its, e) (answer ∙ rw long (simp (and-assoc, and-true)))
-
--- ## Edges
-
-module _ (m : Model) (n : ℕ) {e : Edge} (read : e ≡ edgeAt m n) where
-  pub free-differs : e .parent ≡ 0 → true ≡ passes m EdgesDiffer n
-  unfolding passes
-  free-differs q = rw (← read, q)
-
-  pub later-differ : (e .parent ≡ 0 → ⊥) → {r : Bool} → r ≡ differs (drop n (m .edges)) e
-      → r ≡ passes m EdgesDiffer n
-  unfolding passes
-  later-differ q answer = rw (← read, ne-eqb (e .parent) 0 q) answer

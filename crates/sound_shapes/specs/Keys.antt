@@ -1,7 +1,7 @@
 -- A key among the entries of a shape: a scan for it, and what its place says.
 -- Assumes nothing.
-use mathlib.Core.Bool.{true, false}
-use mathlib.Core.List.{List, [], _∷_}
+use mathlib.Core.Bool.{Bool, true, false, _&&_}
+use mathlib.Core.List.{List, [], _∷_, map}
 use mathlib.Core.Logic.{inl, inr, _≢_}
 use mathlib.Core.Path.{_≡_, refl}
 use Prim.Native.Nat.{ℕ, suc, _+_, _-_, _<_}
@@ -9,15 +9,36 @@ use native.Mathlib.Omega.{arith}
 use lib.Dec.{eqb}
 use lib.ListN.{length, getD}
 use lib.Seq.{getD-take, length-take-le}
-use Rattle.store.specs.Lists.{lowest}
-use Rattle.store.specs.ListLaws.{Decided, either}
-use Rattle.store.specs.Model.{Model, noEntry}
+use Rattle.slot.specs.Attributes.{goodAttributes}
+use Rattle.store.specs.Lists.{lowest, every}
+use Rattle.store.specs.ListLaws.{and-both, Decided, either, every-numbered}
+use Rattle.store.specs.Model.{Table, free, used, Model, noEntry, tableAt, entriesOf}
 use Rattle.store.specs.declared.Shape.{Shape}
 use Rattle.store.specs.declared.Entry.{Entry}
+use Rattle.rules.specs.Numbers.{goodKey}
 use Rattle.rules.specs.Shapes.{isKey, has, attributesIn, tableOf, entries}
+use Rattle.rules.specs.Sound.{onTable, distinct, goodEntries, tablesGood}
 use Rattle.rules.specs.InUse.{Tabled}
 
 -- ## The entries of a shape
+
+abbrev pub keysDiffer : List Entry → Bool
+keysDiffer es = distinct (map (λ e. e .key) es)
+
+abbrev pub eachGood : List Entry → Bool
+eachGood es = every (λ e. goodKey (e .key) && goodAttributes (e .attributes)) es
+
+pub good-entries : (m : Model) → tablesGood m ≡ true → (s : Shape)
+    → (keysDiffer (tableOf m s) ≡ true) × (eachGood (tableOf m s) ≡ true)
+unfolding tablesGood tableAt
+good-entries m good s =
+    let test = onTable (λ t es. goodEntries es) in
+    go (tableAt m (s .table)) (every-numbered free test (λ k. refl) (m .tables) good (s .table))
+  where
+    go : (t : Table) → onTable (λ t es. goodEntries es) (s .table, t) ≡ true
+        → (keysDiffer (entriesOf t) ≡ true) × (eachGood (entriesOf t) ≡ true)
+    go free e = (refl, refl)
+    go (used es) e = and-both (keysDiffer es) (and-both (keysDiffer es && eachGood es) e .0)
 
 module _ {m : Model} {s : Shape} (r : Tabled m s) where
   pub tabled-long : length (entries m s) ≡ s .properties

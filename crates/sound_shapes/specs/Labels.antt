@@ -1,32 +1,30 @@
 -- What a key that is held decides, and what the ways out of an edge's test answer.
 -- Assumes nothing.
-use mathlib.Core.Path.{_≡_, refl, sym}
-use mathlib.Core.Bool.{Bool, true, false, _&&_}
-use mathlib.Core.List.{List, map}
+use mathlib.Core.Path.{_≡_, refl, sym, _∙_}
+use mathlib.Core.Bool.{Bool, true, false, _&&_, _||_, not, and-true, and-false, or-true}
+use mathlib.Core.List.{List, [], _∷_}
+use mathlib.Core.Logic.{_≢_}
 use Prim.Native.Nat.{ℕ, suc, _-_, _≤_, _<_}
 use native.Mathlib.Omega.{arith}
-use borrow.Author.Tests.{eqb-true, eqb-false, ne-eqb, leb-true, le-leb, lt-leb}
+use borrow.Author.Tests.{eqb-true, eqb-false, eq-eqb, ne-eqb, leb-true, le-leb, lt-leb}
 use lib.Dec.{eqb, leb}
 use lib.ListN.{length, getD}
 use Rattle.slot.specs.If.{if_then_else_}
 use Rattle.slot.specs.Attributes.{goodAttributes, sameWidth}
-use Rattle.store.specs.Lists.{lowest, every}
-use Rattle.store.specs.Model.{Table, free, used, Model, noEntry}
-use Rattle.store.specs.Model.{shapeAt, tableAt, edgeAt}
-use Rattle.store.specs.Model.{entriesOf}
+use Rattle.store.specs.Lists.{at, lowest, keep, every}
+use Rattle.store.specs.Model.{Model, noEntry, noEdge, shapeAt, edgeAt}
 use Rattle.store.specs.Image.{Place}
-use Rattle.store.specs.ListLaws.{and-both, every-place, every-numbered, every-then}
+use Rattle.store.specs.ListLaws.{and-both, both-and, or-then, not-then, every-place, every-then}
 use Rattle.store.specs.declared.Shape.{Shape}
 use Rattle.store.specs.declared.Entry.{Entry}
 use Rattle.store.specs.declared.Edge.{Edge}
 use Rattle.rules.specs.Numbers.{goodKey}
-use Rattle.rules.specs.Shapes.{isKey, tableOf, entries}
-use Rattle.rules.specs.Steps.{edgeKind}
-use Rattle.rules.specs.Sound.{inRange, tablesGood, distinct, goodEntries, onTable}
-use Rattle.rules.specs.Sound.{stepOf, goodLabel, goodChild}
-use Rattle.rules.specs.InUse.{EdgeRanges, edge-ranges, tabled}
-use Rattle.sound_shapes.specs.Keys.{key-absent, key-held, held-read}
-use Rattle.sound_shapes.specs.Tests.{widthFits, leadsTo, Keyed}
+use Rattle.rules.specs.Shapes.{isKey, has, shared, isChild, tableOf, entries}
+use Rattle.rules.specs.Steps.{Step, insert, configure, prototype, edgeKind, mayStep}
+use Rattle.rules.specs.Sound.{inRange, stepOf, leads, childrenStepped, goodLabel, goodChild}
+use Rattle.rules.specs.InUse.{EdgeRanges, each-shape, edge-ranges, shared-used, tabled}
+use Rattle.sound_shapes.specs.Keys.{good-entries, key-absent, key-held, held-read}
+use Rattle.sound_shapes.specs.Tests.{widthFits, LiveFits, leadsTo, Keyed}
 use Rattle.sound_shapes.specs.Tests.{goodEdge, TablesKnown}
 
 -- ## The width of a key that is held
@@ -60,19 +58,8 @@ module _
     (state : s .state ≡ 1)
   where
     good-table : every (λ e. goodAttributes (e .attributes)) (tableOf m s) ≡ true
-    unfolding tablesGood tableAt
     good-table =
-        let test = onTable (λ t es. goodEntries es) in
-        go (tableAt m (s .table)) (every-numbered free test (λ k. refl) (m .tables) (known .good) (s .table))
-      where
-        go : (t : Table) → onTable (λ t es. goodEntries es) (s .table, t) ≡ true
-            → every (λ e. goodAttributes (e .attributes)) (entriesOf t) ≡ true
-        go free e = refl
-        go (used es) e =
-            let keys = distinct (map (λ e. e .key) es) in
-            let each = every (λ e. goodKey (e .key) && goodAttributes (e .attributes)) es in
-            every-then (λ x p. and-both (goodKey (x .key)) p .1) es
-            (and-both keys (and-both (keys && each) e .0) .1)
+        every-then (λ x p. and-both (goodKey (x .key)) p .1) (tableOf m s) (good-entries m (known .good) s .1)
 
     pub parent-keyed : Keyed m s
     parent-keyed =
@@ -80,6 +67,41 @@ module _
           tabled = tabled m (known .inUse) (known .counts) n read (rw state refl);
           good = good-table;
         }
+
+-- ## What a step has tested
+
+-- Where all edges that are kept pass a test, one that is kept does.
+module _ (test kept : Edge → Bool) where
+  kept-pass : (es : List Edge) → every test (keep kept es) ≡ every (λ e. not (kept e) || test e) es
+  kept-pass [] = refl
+  kept-pass (e ∷ es) = go (kept e) (kept-pass es)
+    where
+      go : (b : Bool) {more : Bool} → every test (keep kept es) ≡ more
+          → every test (if b then e ∷ keep kept es else keep kept es) ≡ ((not b || test e) && more)
+      go true q = rw q
+      go false q = q
+
+  kept-passes : (es : List Edge) (n : ℕ) → every test (keep kept es) ≡ true → kept noEdge ≡ false
+      → {e : Edge} → e ≡ at es n noEdge → kept e ≡ true → test e ≡ true
+  kept-passes es n h out {e} read its =
+      let each = sym (kept-pass es) ∙ h in
+      not-then (kept e) (rw read (every-place noEdge (λ e. not (kept e) || test e) es (rw out) each n)) its
+
+step-fits : (kind : ℕ) (e : Edge) (es : List Entry) → edgeKind (stepOf kind e) ≡ 0
+    → mayStep (stepOf kind e) es ≡ true → widthFits (e .label) (e .attributes) es ≡ true
+step-fits kind e es = go (eqb kind 0) (eqb kind 1)
+  where
+    stepIf : Bool → Bool → Step
+    stepIf b c =
+        if b then insert (e .label) (e .attributes)
+        else if c then configure (e .label) (e .attributes)
+        else prototype (e .label)
+
+    go : (b c : Bool) → edgeKind (stepIf b c) ≡ 0 → mayStep (stepIf b c) es ≡ true
+        → widthFits (e .label) (e .attributes) es ≡ true
+    go true c k may = rw may
+    go false true k may = rw (and-both (has (e .label) es) may .1, or-true)
+    go false false k may = absurd (omega (arith, k))
 
 -- ## Ways out
 
@@ -131,6 +153,11 @@ module _ (es : List Entry) (e : Edge) where
         skip true b = refl
         skip false b = refl
 
+    pub live-answer : e .attributes ≤ 31 → {good : Bool} → good ≡ goodKey (e .label) → e .child ≢ 0
+        → LiveFits es e → good ≡ goodLabel es e
+    live-answer q {good} known some fits =
+        sym (and-true good) ∙ label-answer q known (sym (fits some property))
+
 module _ (m : Model) (n : ℕ) {e : Edge} (read : e ≡ edgeAt m n) where
   pub free-edge-good : e .parent ≡ 0 → true ≡ goodEdge m (edgeAt m n)
   free-edge-good q = rw (← read, q)
@@ -149,8 +176,34 @@ module _ (m : Model) (n : ℕ) {e : Edge} (read : e ≡ edgeAt m n) where
       pub not-shared : (p .state ≡ 1 → ⊥) → false ≡ goodEdge m (edgeAt m n)
       not-shared q = rw (← read, ne-eqb (e .parent) 0 inUse, ← parent, ne-eqb (p .state) 1 q)
 
-      pub edge-answer : p .state ≡ 1 → {label child : Bool} → label ≡ goodLabel (entries m p) e
-          → child ≡ goodChild (shapeAt m (e .child)) e
-          → (label && child) ≡ goodEdge m (edgeAt m n)
-      edge-answer q label child =
-          rw (← read, ne-eqb (e .parent) 0 inUse, ← parent, q, label, child)
+      pub bad-child : goodChild (shapeAt m (e .child)) e ≡ false → false ≡ goodEdge m (edgeAt m n)
+      bad-child fails = rw (← read, ne-eqb (e .parent) 0 inUse, fails, and-false)
+
+      module _ (child : goodChild (shapeAt m (e .child)) e ≡ true) where
+        pub edge-answer : p .state ≡ 1 → {label : Bool} → label ≡ goodLabel (entries m p) e
+            → label ≡ goodEdge m (edgeAt m n)
+        edge-answer q label =
+            rw (← read, ne-eqb (e .parent) 0 inUse, ← parent, q, child, and-true) label
+
+        -- The step to the child has tested the width.
+        pub live-fits : childrenStepped m ≡ true → LiveFits (entries m p) e
+        unfolding childrenStepped edgeAt
+        live-fits stepped some property =
+            let s = shapeAt m (e .child) in
+            let q = shapeAt m (s .previous) in
+            let t = stepOf (s .step) e in
+            let its = or-then (eqb (e .child) 0) child (ne-eqb (e .child) 0 some) in
+            let (known, kind) = and-both (shared s && eqb (s .previous) (e .parent)) its in
+            let (isShared, back) = and-both (shared s) known in
+            let from : s .previous ≡ e .parent = eqb-true (s .previous) (e .parent) back in
+            let later : not (eqb (s .previous) 0) ≡ true = rw (from, ne-eqb (e .parent) 0 inUse) in
+            let test = each-shape m _ stepped (e .child) (shared-used s isShared) in
+            let led =
+            kept-passes
+            (λ f. leads (stepOf (s .step) f) (entries m q) (q .prototype) (entries m s) (s .prototype))
+            (λ f. eqb (f .child) (e .child)) (m .edges) n
+            (not-then (isChild s) test (both-and isShared later)) (ne-eqb 0 (e .child) (λ z. some (sym z)))
+            read (eq-eqb (e .child) (e .child) refl) in
+            let (allowed, _) = and-both (mayStep t (entries m q) && _) led in
+            step-fits (s .step) e (entries m p) (eqb-true (edgeKind t) (e .kind) kind ∙ property)
+            (rw (from, ← parent) at (and-both (mayStep t (entries m q)) allowed .0))

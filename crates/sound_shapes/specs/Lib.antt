@@ -3,3 +3,4 @@ pub mod Tests
 pub mod Sentences
 pub mod Answers
 pub mod Labels
+pub mod Codes

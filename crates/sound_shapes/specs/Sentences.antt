@@ -9,12 +9,11 @@ use Rattle.store.specs.Lists.{numbered, every, all}
 use Rattle.store.specs.Model.{Model, freeShape}
 use Rattle.store.specs.declared.Shape.{Shape}
 use Rattle.rules.specs.Sound.{eachShape, inRange, tableInUse, freeZero, countsFit, rootsZero}
-use Rattle.rules.specs.Sound.{edgesDiffer}
 use Rattle.rules.specs.Sound.{edgesGood, transitionsLimited, holdsLimited, uniquesZero}
 use Rattle.sound_shapes.specs.Tests.{shapeTests, asked}
 use Rattle.sound_shapes.specs.declared.Sentence.the-variants.{ShapesInRange, EdgesInRange}
 use Rattle.sound_shapes.specs.declared.Sentence.the-variants.{FreeShapesZero, FreeEdgesZero}
-use Rattle.sound_shapes.specs.declared.Sentence.the-variants.{ShapesGood, EdgesDiffer, EdgesGood}
+use Rattle.sound_shapes.specs.declared.Sentence.the-variants.{ShapesGood, EdgesGood}
 
 -- ## Tests joined
 
@@ -31,7 +30,7 @@ swap-middle true false false d = refl
 swap-middle false b c d = refl
 
 -- Tests of each record join,
-every-joins : {A : Type 0} (test other : A → Bool) (xs : List A)
+pub every-joins : {A : Type 0} (test other : A → Bool) (xs : List A)
     → (every test xs && every other xs) ≡ every (λ x. test x && other x) xs
 every-joins test other [] = refl
 every-joins test other (x ∷ xs) =
@@ -89,10 +88,6 @@ module _ (m : Model) where
       ≡ asked m ShapesGood .from 0
   unfolding tableInUse countsFit rootsZero transitionsLimited holdsLimited uniquesZero
   shapes-good = all-join m (shapeTests m) ∙ unplaced _ 1 (m .shapes)
-
-  pub edges-differ : edgesDiffer m ≡ asked m EdgesDiffer .from 0
-  unfolding edgesDiffer
-  edges-differ = refl
 
   pub edges-good : edgesGood m ≡ asked m EdgesGood .from 0
   unfolding edgesGood

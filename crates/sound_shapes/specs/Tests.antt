@@ -3,14 +3,15 @@
 use mathlib.Core.Path.{_≡_, refl}
 use mathlib.Core.Bool.{Bool, true, false, _&&_, _||_, not}
 use mathlib.Core.List.{List, [], _∷_, map}
+use mathlib.Core.Logic.{_≢_}
 use Prim.Native.Nat.{ℕ, _+_}
 use native.Mathlib.Numerals.{add-one}
 use lib.Dec.{eqb, ltb, leb}
-use lib.ListN.{length, drop}
+use lib.ListN.{length}
 use Rattle.slot.specs.If.{if_then_else_}
 use Rattle.slot.specs.Attributes.{goodAttributes, sameWidth}
-use Rattle.store.specs.Lists.{every, any, all, zeros}
-use Rattle.store.specs.Scans.{Scan, scanOf, everyScan, and-if, shape-next, edge-next}
+use Rattle.store.specs.Lists.{every, all, zeros}
+use Rattle.store.specs.Scans.{Scan, everyScan, shape-next, edge-next}
 use Rattle.store.specs.Model.{Model, noShape, noEdge, freeShape, freeTable, freeEdge}
 use Rattle.store.specs.Model.{shapeAt, tableAt, edgeAt}
 use Rattle.store.specs.Layout.{shapeWords, edgeWords}
@@ -18,14 +19,14 @@ use Rattle.store.specs.declared.Shape.{Shape}
 use Rattle.store.specs.declared.Entry.{Entry}
 use Rattle.store.specs.declared.Edge.{Edge}
 use Rattle.rules.specs.Shapes.{has, attributesIn, unique, isRoot, shared, tableOf, entries}
-use Rattle.rules.specs.Steps.{alike, edgeKind}
+use Rattle.rules.specs.Steps.{edgeKind}
 use Rattle.rules.specs.Sound.{stepOf, goodLabel, goodChild, inRange, tableInUse, tablesGood, countsFit}
-use Rattle.rules.specs.Sound.{noTwoAlike}
+use Rattle.rules.specs.Sound.{childrenStepped}
 use Rattle.rules.specs.InUse.{Tabled}
 use Rattle.sound_shapes.specs.declared.Sentence.{Sentence}
 use Rattle.sound_shapes.specs.declared.Sentence.the-variants.{ShapesInRange, EdgesInRange}
 use Rattle.sound_shapes.specs.declared.Sentence.the-variants.{FreeShapesZero, FreeEdgesZero}
-use Rattle.sound_shapes.specs.declared.Sentence.the-variants.{ShapesGood, EdgesDiffer, EdgesGood}
+use Rattle.sound_shapes.specs.declared.Sentence.the-variants.{ShapesGood, EdgesGood}
 
 -- ## One record
 
@@ -77,12 +78,13 @@ shapeTests m =
 abbrev pub goodShape : Model → Shape → Bool
 goodShape m s = freeShape s || all (map (λ test. test s) (shapeTests m))
 
-abbrev pub differs : List Edge → Edge → Bool
-differs es e = not (any (alike e) es)
-
 -- The attributes are of equal width where the key is held.
 abbrev pub widthFits : (key attributes : ℕ) → List Entry → Bool
 widthFits k a es = not (has k es) || sameWidth (attributesIn k es) a
+
+-- The same of a property edge that has a child.
+abbrev pub LiveFits : List Entry → Edge → Type 0
+LiveFits es e = e .child ≢ 0 → e .kind ≡ 0 → widthFits (e .label) (e .attributes) es ≡ true
 
 abbrev pub leadsTo : Shape → Edge → Bool
 leadsTo s e = shared s && eqb (s .previous) (e .parent) && eqb (edgeKind (stepOf (s .step) e)) (e .kind)
@@ -106,9 +108,6 @@ asked m EdgesInRange = everyScan noEdge (edgeInRange (length (m .shapes))) (m .e
 asked m FreeShapesZero = everyScan noShape shapeZeroIfFree (m .shapes)
 asked m FreeEdgesZero = everyScan noEdge edgeZeroIfFree (m .edges)
 asked m ShapesGood = everyScan noShape (goodShape m) (m .shapes)
-asked m EdgesDiffer =
-    scanOf noEdge (λ k es. noTwoAlike es) (λ k e es. not (freeEdge e || differs es e)) (λ k e. false)
-    (λ k e es. and-if (freeEdge e || differs es e) (noTwoAlike es)) (m .edges)
 asked m EdgesGood = everyScan noEdge (goodEdge m) (m .edges)
 
 -- What a sentence takes for granted.
@@ -118,14 +117,18 @@ pub record TablesKnown (m : Model) : Type 0 where
   pub good : tablesGood m ≡ true
   pub counts : countsFit m ≡ true
 
+-- A step to a child has tested the width of its edge's attributes.
+pub record StepsKnown (m : Model) : Type 0 where
+  pub tables : TablesKnown m
+  pub stepped : childrenStepped m ≡ true
+
 abbrev pub Granted : Model → Sentence → Type 0
 Granted m ShapesInRange = Unit {0}
 Granted m EdgesInRange = Unit {0}
 Granted m FreeShapesZero = Unit {0}
 Granted m FreeEdgesZero = Unit {0}
 Granted m ShapesGood = inRange m ≡ true
-Granted m EdgesDiffer = Unit {0}
-Granted m EdgesGood = TablesKnown m
+Granted m EdgesGood = StepsKnown m
 
 -- The record at a place.
 unfoldable pub passes : Model → Sentence → (place : ℕ) → Bool
@@ -134,7 +137,6 @@ passes m EdgesInRange n = edgeInRange (length (m .shapes)) (edgeAt m n)
 passes m FreeShapesZero n = shapeZeroIfFree (shapeAt m n)
 passes m FreeEdgesZero n = edgeZeroIfFree (edgeAt m n)
 passes m ShapesGood n = goodShape m (shapeAt m n)
-passes m EdgesDiffer n = freeEdge (edgeAt m n) || differs (drop n (m .edges)) (edgeAt m n)
 passes m EdgesGood n = goodEdge m (edgeAt m n)
 
 pub passes-here : (m : Model) (sentence : Sentence) (k : ℕ) {b : Bool} → b ≡ passes m sentence (k + 1)
@@ -145,7 +147,6 @@ passes-here m EdgesInRange k e = rw (e, edge-next m k)
 passes-here m FreeShapesZero k e = rw (e, shape-next m k)
 passes-here m FreeEdgesZero k e = rw (e, edge-next m k)
 passes-here m ShapesGood k e = rw (e, shape-next m k)
-passes-here m EdgesDiffer k e = rw (e, edge-next m k, add-one)
 passes-here m EdgesGood k e = rw (e, edge-next m k)
 
 -- The first that fails decides, and else all pass.
@@ -156,5 +157,4 @@ decided m EdgesInRange k = (refl, refl)
 decided m FreeShapesZero k = (refl, refl)
 decided m FreeEdgesZero k = (refl, refl)
 decided m ShapesGood k = (refl, refl)
-decided m EdgesDiffer k = (refl, refl)
 decided m EdgesGood k = (refl, refl)

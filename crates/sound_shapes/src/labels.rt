@@ -18,7 +18,8 @@ ghost use Rattle.store.specs.Layout.{parse};
 ghost use Rattle.store.specs.Image.{Formed, Place};
 ghost use Rattle.rules.specs.Shapes.{entries};
 ghost use Rattle.rules.specs.Sound.{goodLabel, goodChild};
-ghost use Rattle.sound_shapes.specs.Tests.{TablesKnown, Keyed, widthFits, leadsTo, goodEdge};
+ghost use Rattle.sound_shapes.specs.Tests.{StepsKnown, Keyed, widthFits, LiveFits, leadsTo};
+ghost use Rattle.sound_shapes.specs.Tests.{goodEdge};
 
 // The attributes are of equal width where the shape holds the key.
 fn width_fits(image: &[u32], s: Shape, key: u32, attributes: u32) -> bool
@@ -36,10 +37,12 @@ fn width_fits(image: &[u32], s: Shape, key: u32, attributes: u32) -> bool
 }
 
 // "a property edge's key is good, its attributes up to 31 and of equal width where the parent
-// holds that key; a prototype edge has any prototype and attributes 0"
+// holds that key; a prototype edge has any prototype and attributes 0". The step to a child has
+// tested the width.
 fn label_is_good(image: &[u32], parent: Shape, e: Edge) -> bool
     requires { ⌜ Formed (now image) ⌝ }
     requires { ⌜ Keyed (parse (now image)) parent ⌝ }
+    requires { ⌜ LiveFits (entries (parse (now image)) parent) e ⌝ }
     ensures { λ r. ⌜ r ≡ goodLabel (entries (parse (now (image .entry))) parent) e ⌝ }
 {
     if e.kind != 0 {
@@ -48,7 +51,11 @@ fn label_is_good(image: &[u32], parent: Shape, e: Edge) -> bool
     if e.attributes > 31 {
         return false;
     }
-    good_key(e.label) & width_fits(image, parent, e.label, e.attributes)
+    let good = good_key(e.label);
+    if e.child != 0 {
+        return good;
+    }
+    good & width_fits(image, parent, e.label, e.attributes)
 }
 
 // The kind of the edges that a step kind has.
@@ -79,7 +86,7 @@ fn child_is_good(image: &[u32], e: Edge) -> bool
 // "An edge's parent is shared;" and the two before.
 pub fn edge_is_good(image: &[u32], n: u32) -> bool
     requires { ⌜ Formed (now image) ⌝ }
-    requires { ⌜ TablesKnown (parse (now image)) ⌝ }
+    requires { ⌜ StepsKnown (parse (now image)) ⌝ }
     requires { ⌜ Place (length (parse (now image) .edges)) n ⌝ }
     ensures { λ r.
         ⌜ r ≡ goodEdge (parse (now (image .entry))) (edgeAt (parse (now (image .entry))) n) ⌝ }
@@ -92,5 +99,8 @@ pub fn edge_is_good(image: &[u32], n: u32) -> bool
     if parent.state != 1 {
         return false;
     }
-    label_is_good(image, parent, e) & child_is_good(image, e)
+    if !child_is_good(image, e) {
+        return false;
+    }
+    label_is_good(image, parent, e)
 }

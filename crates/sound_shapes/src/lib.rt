@@ -1,5 +1,4 @@
 // The part of the soundness test that reads each shape's and each edge's own fields.
-use crate::edges::differs_from_later;
 use crate::edges::edge_in_range;
 use crate::edges::edge_zero_if_free;
 use crate::labels::edge_is_good;
@@ -18,15 +17,17 @@ ghost use Rattle.store.specs.Lists.{all};
 ghost use Rattle.store.specs.Layout.{parse};
 ghost use Rattle.store.specs.Image.{Formed, Place};
 ghost use Rattle.rules.specs.Sound.{inRange, tableInUse, freeZero, countsFit, rootsZero};
-ghost use Rattle.rules.specs.Sound.{edgesDiffer};
 ghost use Rattle.rules.specs.Sound.{edgesGood, transitionsLimited, holdsLimited, uniquesZero};
-ghost use Rattle.sound_shapes.specs.Tests.{TablesKnown, asked, Granted, passes};
+ghost use Rattle.sound_shapes.specs.Tests.{StepsKnown, asked, Granted, passes};
 
+mod codes;
 mod edges;
 pub mod keys;
 mod labels;
 mod shapes;
 mod zeros;
+
+pub use codes::edges_differ;
 
 // What is asked of each shape or of each edge.
 pub enum Sentence {
@@ -35,7 +36,6 @@ pub enum Sentence {
     FreeShapesZero,
     FreeEdgesZero,
     ShapesGood,
-    EdgesDiffer,
     EdgesGood,
 }
 
@@ -54,7 +54,6 @@ fn record_passes(image: &[u32], sentence: Sentence, n: u32) -> bool
         Sentence::FreeShapesZero => shape_zero_if_free(get_shape(image, n)),
         Sentence::FreeEdgesZero => edge_zero_if_free(get_edge(image, n)),
         Sentence::ShapesGood => shape_is_good(image, n),
-        Sentence::EdgesDiffer => differs_from_later(image, n),
         Sentence::EdgesGood => edge_is_good(image, n),
     }
 }
@@ -109,18 +108,10 @@ pub fn shapes_good(image: &[u32]) -> bool
     every_record_passes(image, Sentence::ShapesGood, shape_count(image))
 }
 
-// "No two edges agree in parent, kind, key or prototype, and attributes."
-pub fn edges_differ(image: &[u32]) -> bool
-    requires { ⌜ Formed (now image) ⌝ }
-    ensures { λ r. ⌜ r ≡ edgesDiffer (parse (now (image .entry))) ⌝ }
-{
-    every_record_passes(image, Sentence::EdgesDiffer, edge_count(image))
-}
-
 // What an edge says of its parent, its key or prototype, and its child.
 pub fn edges_good(image: &[u32]) -> bool
     requires { ⌜ Formed (now image) ⌝ }
-    requires { ⌜ TablesKnown (parse (now image)) ⌝ }
+    requires { ⌜ StepsKnown (parse (now image)) ⌝ }
     ensures { λ r. ⌜ r ≡ edgesGood (parse (now (image .entry))) ⌝ }
 {
     every_record_passes(image, Sentence::EdgesGood, edge_count(image))

@@ -1,2 +1,3 @@
 pub mod Links
 pub mod StepLaws
+pub mod Children

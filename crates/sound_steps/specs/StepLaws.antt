@@ -1,47 +1,34 @@
 -- A step of one child, entry by entry.
 -- Assumes nothing.
 use mathlib.Core.Path.{_≡_, refl, sym, ap, _∙_}
-use mathlib.Core.Bool.{Bool, true, false, _&&_, not, and-true, and-false, and-assoc, true≢false}
+use mathlib.Core.Bool.{Bool, true, false, _&&_, not, and-true, and-false, and-assoc, and-comm, or-true}
+use mathlib.Core.Bool.{false≢true}
 use mathlib.Core.List.{List, [], _∷_, _++_, map}
 use mathlib.Core.Logic.{_⊎_, inl, inr, _≢_}
 use Prim.Native.Nat.{ℕ, zero, suc, _+_, _-_, _≤_, _<_}
 use native.Mathlib.Nat.{not-suc-le-zero, le-of-suc-le-suc}
 use native.Mathlib.Omega.{arith}
-use borrow.Author.Tests.{ne-eqb}
+use borrow.Author.Tests.{eqb-true, ne-eqb, not-true}
 use lib.Dec.{eqb}
 use lib.ListN.{length, getD, take, length-map, length-append}
 use lib.Seq.{take-take, getD-take, length-take-le}
 use Rattle.slot.specs.If.{if_then_else_}
 use Rattle.slot.specs.Attributes.{width}
-use Rattle.store.specs.Lists.{at, lowest, every, onlyOne, agree}
-use Rattle.store.specs.ListLaws.{and-both, every-numbered}
-use Rattle.store.specs.Model.{Model, noShape, noEdge, noEntry}
-use Rattle.store.specs.Model.{shapeAt}
-use Rattle.store.specs.Image.{Place}
+use Rattle.store.specs.Lists.{at, lowest, every, any, agree}
+use Rattle.store.specs.ListLaws.{and-both, not-both, agree-self, eqb-sym}
+use Rattle.store.specs.Model.{Model, noEntry}
 use Rattle.store.specs.PlaceLaws.{same?}
 use Rattle.store.specs.Scans.{Scanning, everyScan, stopped, went-on, ended}
 use Rattle.store.specs.declared.Shape.{Shape}
 use Rattle.store.specs.declared.Entry.{Entry}
 use Rattle.store.specs.declared.Edge.{Edge}
-use Rattle.rules.specs.Shapes.{entry, isKey, has, widths, pairs, shared}
-use Rattle.rules.specs.Shapes.{isChild, tableOf, entries}
+use Rattle.rules.specs.Shapes.{entry, isKey, has, widths, pairs}
+use Rattle.rules.specs.Shapes.{tableOf, entries}
 use Rattle.rules.specs.Steps.{configure, prototype, mayStep, stepEntries, stepPrototype}
-use Rattle.rules.specs.Sound.{inRange, tableInUse, countsFit, edgesTo, childrenLinked, stepOf, leads}
-use Rattle.rules.specs.InUse.{shared-used, Tabled, tabled}
-use Rattle.sound_shapes.specs.Keys.{tabled-long, key-absent, key-held}
-use Rattle.sound_steps.specs.Links.{Marked, none, one, several, childTest, a-child}
-use Rattle.sound_steps.specs.Links.{isLinked, linked-each}
-
--- What is tested before a child's step.
-pub record Tested (m : Model) : Type 0 where
-  pub ranges : inRange m ≡ true
-  pub inUse : tableInUse m ≡ true
-  pub counts : countsFit m ≡ true
-  pub linked : childrenLinked m ≡ true
-
-pub shared-tabled : {m : Model} → Tested m → (n : ℕ) {s : Shape} → s ≡ shapeAt m n → shared s ≡ true
-    → Tabled m s
-shared-tabled {m} t n {s} its e = tabled m (t .inUse) (t .counts) n its (shared-used s e)
+use Rattle.rules.specs.Sound.{tablesGood, stepOf, leads}
+use Rattle.rules.specs.InUse.{Tabled}
+use Rattle.sound_shapes.specs.Keys.{keysDiffer, good-entries, tabled-long, key-absent, key-held}
+use Rattle.sound_steps.specs.Links.{none, one}
 
 -- ## Entry by entry
 
@@ -108,9 +95,6 @@ module _ {kind : ℕ} (edge : Edge) where
   is-prototype : 1 < kind → stepOf kind edge ≡ prototype (edge .label)
   is-prototype l = rw (ne-eqb kind 0 (λ e. omega arith), ne-eqb kind 1 (λ e. omega arith))
 
-  pub may-prototype : (es : List Entry) → 1 < kind → true ≡ mayStep (stepOf kind edge) es
-  may-prototype es l = rw (is-prototype l)
-
   pub other-prototype : (p : ℕ) → 1 < kind → edge .label ≡ stepPrototype (stepOf kind edge) p
   other-prototype p l = rw (is-prototype l)
 
@@ -119,27 +103,45 @@ same-prototype zero edge p l = refl
 same-prototype (suc zero) edge p l = refl
 same-prototype (suc (suc kind)) edge p l = absurd (omega arith)
 
-module _ (edge : Edge) (es : List Entry) {place : ℕ} (its : place ≡ lowest (isKey (edge .label)) 1 es)
-    {kind : ℕ} where
-  pub may-insert : kind ≡ 0 → eqb place 0 ≡ mayStep (stepOf kind edge) es
-  may-insert e = rw e (go (same? place 0))
-    where
-      go : (place ≡ 0) ⊎ (place ≢ 0) → eqb place 0 ≡ not (has (edge .label) es)
-      go (inl z) = rw (z, key-absent (edge .label) es its z)
-      go (inr ne) = rw (ne-eqb place 0 ne, key-held (edge .label) es its ne .held)
+module _ (edge : Edge) (es : List Entry) {place : ℕ} (its : place ≡ lowest (isKey (edge .label)) 1 es) where
+  pub may-not-configure : place ≡ 0 → false ≡ mayStep (configure (edge .label) (edge .attributes)) es
+  may-not-configure out = rw (key-absent (edge .label) es its out)
 
-  pub may-not-configure : kind ≤ 1 → kind ≢ 0 → place ≡ 0 → false ≡ mayStep (stepOf kind edge) es
-  may-not-configure high low out =
-      let e : kind ≡ 1 = omega (arith, low) in
-      rw (e, key-absent (edge .label) es its out)
-
-  pub may-configure : {x : Entry} {wide other : ℕ} → kind ≤ 1 → kind ≢ 0 → place ≢ 0
-      → x ≡ getD es (place - 1) noEntry → wide ≡ width (x .attributes) → other ≡ width (edge .attributes)
-      → eqb wide other ≡ mayStep (stepOf kind edge) es
-  may-configure {x} high low ne is w v =
-      let e : kind ≡ 1 = omega (arith, low) in
+  pub may-configure : {x : Entry} {wide other : ℕ} → place ≢ 0 → x ≡ getD es (place - 1) noEntry
+      → wide ≡ width (x .attributes) → other ≡ width (edge .attributes)
+      → eqb wide other ≡ mayStep (configure (edge .label) (edge .attributes)) es
+  may-configure ne is w v =
       let h = key-held (edge .label) es its ne in
-      rw (e, w, v, h .held, ← (h .attributes), is)
+      rw (w, v, h .held, ← (h .attributes), is)
+
+-- The last of the first k keys is one of all,
+last-stands : (k : ℕ) (fs es : List Entry) (x : Entry)
+    → agree (pairs (take k fs)) (pairs (es ++ x ∷ [])) ≡ true → any (eqb (x .key)) (map (λ e. e .key) fs) ≡ true
+last-stands zero fs [] x a = absurd (false≢true a)
+last-stands zero fs (e ∷ es) x a = absurd (false≢true a)
+last-stands (suc k) [] [] x a = absurd (false≢true a)
+last-stands (suc k) [] (e ∷ es) x a = absurd (false≢true a)
+last-stands (suc k) (f ∷ fs) [] x a =
+    rw (eqb-sym (x .key) (f .key), and-both (eqb (f .key) (x .key)) a .0)
+last-stands (suc k) (f ∷ fs) (e ∷ es) x a =
+    let rest = and-both (eqb (f .attributes) (e .attributes)) (and-both (eqb (f .key) (e .key)) a .1) .1 in
+    rw (last-stands k fs es x rest, or-true)
+
+-- and where all differ it is none of those before it.
+last-absent : (k : ℕ) (fs es : List Entry) (x : Entry) → keysDiffer fs ≡ true
+    → agree (pairs (take k fs)) (pairs (es ++ x ∷ [])) ≡ true → has (x .key) es ≡ false
+last-absent k fs [] x d a = refl
+last-absent zero fs (e ∷ es) x d a = absurd (false≢true a)
+last-absent (suc k) [] (e ∷ es) x d a = absurd (false≢true a)
+last-absent (suc k) (f ∷ fs) (e ∷ es) x d a =
+    let (same, more) = and-both (eqb (f .key) (e .key)) a in
+    let rest = and-both (eqb (f .attributes) (e .attributes)) more .1 in
+    let later = any (eqb (f .key)) (map (λ e. e .key) fs) in
+    let (apart, differ) = and-both (not later) d in
+    let other : e .key ≢ x .key
+    = λ q.
+    not-both (rw (eqb-true (f .key) (e .key) same ∙ q) (last-stands k fs es x rest)) (not-true later apart) in
+    rw (ne-eqb (e .key) (x .key) other) (last-absent k fs es x differ rest)
 
 -- A step that adds no key: those that are there, but for the key of a configure.
 kept-entries : (kind : ℕ) (edge : Edge) (es : List Entry) → kind ≢ 0
@@ -205,6 +207,48 @@ module _ {m : Model} {p s : Shape} (old : Tabled m p) (new : Tabled m s) (edge :
         → first ≡ firstFollow m p s edge (eqb (s .step) 1) → first ≡ entriesFollow m p s edge
     others-follow same f = rw (same, ← (kept-entries (s .step) edge (entries m p) ne)) f
 
+-- ## The whole step
+
+last-first : (same kept may : Bool) → (same && kept && may) ≡ (may && same && kept)
+last-first same kept may = and-comm (same && kept) may ∙ sym (and-assoc may same kept)
+
+known-first : (a b c : Bool) → (b ≡ true → a ≡ true) → (b && c) ≡ (a && b && c)
+known-first a true c f = rw (f refl)
+known-first a false c f = rw and-false
+
+module _ (m : Model) (p s : Shape) (edge : Edge) where
+  -- A step that is no configure needs no test: an insert's key is the child's last, and the child's keys differ.
+  allowed : s .step ≢ 1 → tablesGood m ≡ true → entriesFollow m p s edge ≡ true
+      → mayStep (stepOf (s .step) edge) (entries m p) ≡ true
+  allowed ne good h = go (same? (s .step) 0)
+    where
+      go : (s .step ≡ 0) ⊎ (s .step ≢ 0) → mayStep (stepOf (s .step) edge) (entries m p) ≡ true
+      go (inl z) =
+          let es = entries m p in
+          let new-entry = entry (edge .label) (edge .attributes) (widths es) in
+          let differ = good-entries m good s .0 in
+          rw (z, last-absent (s .properties) (tableOf m s) es new-entry differ (rw z at h))
+      go (inr nz) = rw (is-prototype {kind = s .step} edge (omega (arith, ne, nz)))
+
+  module _
+      {follow : Bool}
+      {after : ℕ}
+      (follows : follow ≡ entriesFollow m p s edge)
+      (becomes : after ≡ stepPrototype (stepOf (s .step) edge) (p .prototype))
+    where
+      pub configure-leads : s .step ≡ 1 → {may : Bool}
+          → may ≡ mayStep (configure (edge .label) (edge .attributes)) (entries m p)
+          → (follow && eqb (s .prototype) after && may)
+          ≡ leads (stepOf (s .step) edge) (entries m p) (p .prototype) (entries m s) (s .prototype)
+      configure-leads e {may} its =
+          let known : mayStep (stepOf (s .step) edge) (entries m p) ≡ may = rw e (sym its) in
+          rw (known, ← follows, ← becomes) (last-first follow (eqb (s .prototype) after) may)
+
+      pub others-lead : s .step ≢ 1 → tablesGood m ≡ true
+          → (follow && eqb (s .prototype) after)
+          ≡ leads (stepOf (s .step) edge) (entries m p) (p .prototype) (entries m s) (s .prototype)
+      others-lead ne good = rw (follows, becomes) (known-first _ _ _ (allowed ne good))
+
 -- ## The comparison of the first entries
 
 -- Each of the child's beside the previous's.
@@ -215,6 +259,12 @@ abbrev pub Comparing : Model → (previous child : Shape) → Edge → (configur
 Comparing m p s edge configures done =
     Scanning (everyScan (noEntry, noEntry) (follows (changed configures edge)) (compared m p s)) done
     (every (follows (changed configures edge)) (compared m p s))
+
+-- In one table they are the same words.
+pub one-table : (m : Model) (p s : Shape) (edge : Edge) {configures : Bool} → configures ≡ false
+    → p .table ≡ s .table → true ≡ firstFollow m p s edge configures
+one-table m p s edge never same =
+    rw (never, changed-never edge (entries m p), same) (sym (agree-self (pairs (take (p .properties) (tableOf m s)))))
 
 module _
     {m : Model}
@@ -269,37 +319,3 @@ module _
 
       pub compare-all : p .properties ≤ done → true ≡ firstFollow m p s edge configures
       compare-all l = ended c (sym many) l ∙ ends
-
--- ## One child
-
-abbrev pub isStepped : Model → ℕ × Shape → Bool
-isStepped m (n, s) =
-    let p = shapeAt m (s .previous) in
-    childTest s
-    (every (λ e. leads (stepOf (s .step) e) (entries m p) (p .prototype) (entries m s) (s .prototype))
-    (edgesTo m n))
-
--- What the link of a child says.
-pub linked-says : {m : Model} → Tested m → (n : ℕ) {s p : Shape} → s ≡ shapeAt m n → isChild s ≡ true
-    → p ≡ shapeAt m (s .previous)
-    → (shared p ≡ true) × (onlyOne (λ e. eqb (e .parent) (s .previous)) (edgesTo m n) ≡ true)
-unfolding shapeAt
-linked-says {m} t n {s} {p} its c previous =
-    let every-link = sym (linked-each m) ∙ t .linked in
-    let its-link = every-numbered noShape (isLinked m) (λ k. refl) (m .shapes) every-link n in
-    let links = a-child s _ c ∙ rw (← its, ← previous) at its-link in
-    let (known, only) = and-both (shared p && eqb (s .transitions) (p .transitions + 1)) links in
-    (and-both (shared p) known .0, only)
-
-pub sole : {all kept : List Edge} {mark : ℕ} (test : Edge → Bool) → Marked all kept mark
-    → onlyOne test kept ≡ true → Place (length all) mark × (kept ≡ at all mark noEdge ∷ [])
-sole test (none z e) h = absurd (true≢false (sym (rw e at h)))
-sole test (one p e) h = (p, e)
-sole test (several z x y more e) h = absurd (true≢false (sym (rw e at h)))
-
-pub stepped-child : (m : Model) (n : ℕ) {s p : Shape} {edge its : Edge} {r : Bool}
-    → s ≡ shapeAt m n → isChild s ≡ true → p ≡ shapeAt m (s .previous) → edge ≡ its → edgesTo m n ≡ its ∷ []
-    → r ≡ leads (stepOf (s .step) edge) (entries m p) (p .prototype) (entries m s) (s .prototype)
-    → r ≡ isStepped m (n, shapeAt m n)
-stepped-child m n {s} {p} {edge} is c previous e alone l =
-    l ∙ sym (and-true _) ∙ rw (← is, ← previous, alone, ← e) (a-child s _ c)

@@ -1,30 +1,21 @@
-// Whether each child's keys, attributes and prototype are what its edge's step makes of its previous's.
-use crate::links::edges_by_child;
-use crate::links::is_child;
+// Whether a child's keys, attributes and prototype are its previous's with its edge's step applied.
 use slot::KeyPosition;
 use sound_shapes::keys::place_of_key;
 use store::Edge;
 use store::Entry;
 use store::Shape;
-use store::image::get_edge;
 use store::image::get_entry;
-use store::image::get_shape;
-use store::image::shape_count;
-use store::rows::wide;
 ghost use mathlib.Core.Path.{_≡_};
+ghost use mathlib.Core.Bool.{true};
 ghost use Prim.Native.Nat.{_≤_};
-ghost use lib.ListN.{length};
 ghost use Rattle.slot.specs.Attributes.{width};
-ghost use Rattle.store.specs.Model.{shapeAt};
 ghost use Rattle.store.specs.Layout.{parse};
-ghost use Rattle.store.specs.Image.{Formed, Place};
+ghost use Rattle.store.specs.Image.{Formed};
 ghost use Rattle.rules.specs.Shapes.{entries};
-ghost use Rattle.rules.specs.Steps.{mayStep, stepPrototype};
-ghost use Rattle.rules.specs.Sound.{edgesTo, stepOf, leads, childrenStepped};
-ghost use Rattle.sound_steps.specs.Links.{Marked};
+ghost use Rattle.rules.specs.Steps.{configure, mayStep, stepPrototype};
+ghost use Rattle.rules.specs.Sound.{tablesGood, stepOf, leads};
 ghost use Rattle.rules.specs.InUse.{Tabled};
-ghost use Rattle.sound_steps.specs.StepLaws.{Tested, samePair, changed, isStepped};
-ghost use Rattle.sound_steps.specs.StepLaws.{firstFollow, entriesFollow};
+ghost use Rattle.sound_steps.specs.StepLaws.{samePair, changed, firstFollow, entriesFollow};
 
 // An edge's attributes are not tested before its step, so that they may not fit the attribute byte.
 fn width(attributes: u32) -> u32
@@ -37,18 +28,15 @@ fn width(attributes: u32) -> u32
     }
 }
 
-fn may_step(image: &[u32], p: Shape, kind: u32, edge: Edge) -> bool
+fn may_configure(image: &[u32], p: Shape, edge: Edge) -> bool
     requires { ⌜ Formed (now image) ⌝ }
     requires { ⌜ Tabled (parse (now image)) p ⌝ }
-    ensures { λ r. ⌜ r ≡ mayStep (stepOf kind edge) (entries (parse (now (image .entry))) p) ⌝ }
+    ensures { λ r. ⌜
+        r ≡ mayStep (configure (edge .label) (edge .attributes))
+        (entries (parse (now (image .entry))) p)
+        ⌝ }
 {
-    if kind > 1 {
-        return true;
-    }
     let place = place_of_key(image, p, edge.label);
-    if kind == 0 {
-        return place == 0;
-    }
     if place == 0 {
         return false;
     }
@@ -77,8 +65,8 @@ fn entry_after(configures: bool, edge: Edge, e: Entry) -> Entry
     }
 }
 
-// One loop serves the three kinds of step: only a configure changes an entry, and an insert's new one
-// stands after those of the previous.
+// One loop serves the three kinds of step: only a configure changes an entry, and an insert's new
+// one stands after those of the previous. In the previous's own table they are the same words.
 fn same_first(image: &[u32], p: Shape, s: Shape, edge: Edge, configures: bool) -> bool
     requires { ⌜ Formed (now image) ⌝ }
     requires { ⌜ Tabled (parse (now image)) p ⌝ }
@@ -86,6 +74,9 @@ fn same_first(image: &[u32], p: Shape, s: Shape, edge: Edge, configures: bool) -
     requires { ⌜ p .properties ≤ s .properties ⌝ }
     ensures { λ r. ⌜ r ≡ firstFollow (parse (now (image .entry))) p s edge configures ⌝ }
 {
+    if !configures & (p.table == s.table) {
+        return true;
+    }
     let count = p.properties;
     let mut done = 0;
     while done < count {
@@ -126,8 +117,10 @@ fn prototype_after(kind: u32, edge: Edge, prototype: u32) -> u32
     if kind > 1 { edge.label } else { prototype }
 }
 
-fn leads(image: &[u32], p: Shape, s: Shape, edge: Edge) -> bool
+// That an insert's key is new needs no test: the child's table has distinct keys.
+pub fn leads(image: &[u32], p: Shape, s: Shape, edge: Edge) -> bool
     requires { ⌜ Formed (now image) ⌝ }
+    requires { ⌜ tablesGood (parse (now image)) ≡ true ⌝ }
     requires { ⌜ Tabled (parse (now image)) p ⌝ }
     requires { ⌜ Tabled (parse (now image)) s ⌝ }
     ensures { λ r. ⌜
@@ -135,44 +128,10 @@ fn leads(image: &[u32], p: Shape, s: Shape, edge: Edge) -> bool
         (entries (parse (now (image .entry))) s) (s .prototype)
         ⌝ }
 {
-    let allowed = may_step(image, p, s.step, edge);
     let follow = entries_follow(image, p, s, edge);
-    allowed & follow & (s.prototype == prototype_after(s.step, edge, p.prototype))
-}
-
-fn is_stepped(image: &[u32], n: u32, mark: u32) -> bool
-    requires { ⌜ Formed (now image) ⌝ }
-    requires { ⌜ Tested (parse (now image)) ⌝ }
-    requires { ⌜ Place (length (parse (now image) .shapes)) n ⌝ }
-    requires { ⌜ Marked (parse (now image) .edges) (edgesTo (parse (now image)) n) mark ⌝ }
-    ensures { λ r. ⌜
-        r ≡ isStepped (parse (now (image .entry))) (n, shapeAt (parse (now (image .entry))) n)
-        ⌝ }
-{
-    let s = get_shape(image, n);
-    if !is_child(s) {
-        return true;
+    let after = follow & (s.prototype == prototype_after(s.step, edge, p.prototype));
+    if s.step == 1 {
+        return after & may_configure(image, p, edge);
     }
-    let p = get_shape(image, s.previous);
-    let edge = get_edge(image, mark);
-    leads(image, p, s, edge)
-}
-
-pub fn children_stepped(image: &[u32]) -> bool
-    requires { ⌜ Formed (now image) ⌝ }
-    requires { ⌜ Tested (parse (now image)) ⌝ }
-    ensures { λ r. ⌜ r ≡ childrenStepped (parse (now (image .entry))) ⌝ }
-{
-    let marks = edges_by_child(image);
-    let count = shape_count(image);
-    let mut done = 0;
-    while done < count {
-        let n = done + 1;
-        let at = wide(n);
-        if !is_stepped(image, n, marks[at]) {
-            return false;
-        }
-        done = n;
-    }
-    true
+    after
 }

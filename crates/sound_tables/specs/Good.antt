@@ -1,22 +1,23 @@
 -- The test of the tables' entries: keys, attributes and slots.
 -- Assumes nothing.
 use mathlib.Core.Path.{_≡_, refl, sym, ap, _∙_}
-use mathlib.Core.Bool.{Bool, true, false, _&&_, not, and-true, and-false}
-use mathlib.Core.List.{List, map}
+use mathlib.Core.Bool.{Bool, true, false, _&&_, and-true, and-false, and-assoc}
+use mathlib.Core.List.{List, _∷_, map}
 use Prim.Native.Nat.{ℕ, suc, _+_, _*_, _≤_, _<_}
 use native.Mathlib.Numerals.{add-one}
 use native.Mathlib.Omega.{arith}
 use borrow.Author.Tests.{leb-true}
 use lib.Dec.{eqb}
-use lib.ListN.{length, getD, drop}
+use lib.ListN.{length, getD, set, take, drop, length-map, List·getD-map}
 use lib.Seq.{drop-cons, drop-length}
 use Rattle.slot.specs.If.{if_then_else_}
 use Rattle.slot.specs.Attributes.{goodAttributes, accessor, width}
-use Rattle.store.specs.Lists.{at, every, any}
-use Rattle.store.specs.ListLaws.{and-both, every-place}
-use Rattle.store.specs.Scans.{Scan, Scanning, scan, scanOf, placesScan, and-if, none-if, table-next}
+use Rattle.store.specs.Lists.{every}
+use Rattle.store.specs.ListLaws.{and-both}
+use Rattle.store.specs.Scans.{Scanning, scan, placesScan, table-next}
 use Rattle.store.specs.Model.{Table, free, used, Model, noEntry, entriesOf, tableAt}
 use Rattle.store.specs.declared.Entry.{Entry}
+use Rattle.distinct.specs.Written.{Written, written-none, written-next, written-all}
 use Rattle.rules.specs.Numbers.{goodKey}
 use Rattle.rules.specs.Sound.{onTable, distinct, slotsFrom, goodEntries, tablesGood}
 
@@ -28,33 +29,20 @@ keysOf es = map (λ e. e .key) es
 abbrev pub goodEntry : Entry → Bool
 goodEntry e = goodKey (e .key) && goodAttributes (e .attributes)
 
--- No key after the one at a position is the same.
-unfoldable pub noneAfter : List Entry → ℕ → Bool
-noneAfter es k = not (any (eqb (getD es k noEntry .key)) (keysOf (drop (suc k) es)))
+-- All but that the keys are distinct.
+abbrev pub entriesRight : List Entry → Bool
+entriesRight es = every goodEntry es && slotsFrom 0 es
 
--- ## Keys
+-- Room for a table's keys, and to tell them apart.
+pub record Roomy (m : Model) (codes room : List ℕ) : Type 0 where
+  pub for-codes : m .K ≤ length codes
+  pub for-seats : m .K ≤ length room
 
--- A key against those of the entries left.
-abbrev pub apartScan : ℕ → List Entry → Scan Bool
-apartScan key =
-    scanOf noEntry (λ k es. not (any (eqb key) (keysOf es))) (λ k e es. eqb key (e .key)) (λ k e. false)
-    (λ k e es. none-if (eqb key (e .key)) (any (eqb key) (keysOf es)))
+-- A lent slice keeps its length.
+pub still-fits : {n long still : ℕ} → n ≤ long → still ≡ long → n ≤ still
+still-fits l e = omega arith
 
-pub none-after : (es : List Entry) (k : ℕ) {e : Entry} → e ≡ getD es k noEntry
-    → not (any (eqb (e .key)) (keysOf (drop (k + 1) es))) ≡ noneAfter es k
-unfolding noneAfter
-none-after es k e = rw (e, add-one)
-
-abbrev pub distinctScan : List Entry → Scan Bool
-distinctScan =
-    scanOf noEntry (λ k es. distinct (keysOf es)) (λ k e es. not (not (any (eqb (e .key)) (keysOf es))))
-    (λ k e. false) (λ k e es. and-if (not (any (eqb (e .key)) (keysOf es))) (distinct (keysOf es)))
-
-pub last-tested : (es : List Entry) (k : ℕ) {b : Bool} → b ≡ noneAfter es k → not b ≡ distinctScan es .stops k
-unfolding noneAfter
-last-tested es k e = ap not e
-
--- ## Slots
+-- ## Entry by entry
 
 pub narrow : (a : ℕ) → width a ≤ 2
 unfolding width
@@ -64,63 +52,87 @@ narrow a = go (accessor a)
     go true = omega arith
     go false = omega arith
 
--- The slots before are right, and `next` is the sum of their widths.
-pub record Slots (es : List Entry) (n done next : ℕ) : Type 0 where
-  pub within : done ≤ n
+abbrev rightFrom : ℕ → List Entry → Bool
+rightFrom next es = every goodEntry es && slotsFrom next es
+
+first-right : (e : Entry) (next : ℕ) (es : List Entry)
+    → rightFrom next (e ∷ es)
+    ≡ ((goodEntry e && eqb (e .slot .0) next) && rightFrom (next + width (e .attributes)) es)
+first-right e next es =
+    go (goodEntry e) (every goodEntry es) (eqb (e .slot .0) next) (slotsFrom (next + width (e .attributes)) es)
+  where
+    go : (a b c d : Bool) → ((a && b) && (c && d)) ≡ ((a && c) && (b && d))
+    go true true c d = refl
+    go true false c d = sym (and-false c)
+    go false b c d = refl
+
+pub attributes-good : (e : Entry) (next : ℕ) {b : Bool} → b ≡ (goodEntry e && eqb (e .slot .0) next) → b ≡ true
+    → e .attributes ≤ 31
+attributes-good e next f g =
+    leb-true (e .attributes) 31 (and-both (goodKey (e .key)) (and-both (goodEntry e) (sym f ∙ g) .0) .1)
+
+-- The entries before are right, their keys are written, and `next` is the sum of their widths.
+pub record Right (es : List Entry) (long done next : ℕ) (codes : List ℕ) : Type 0 where
   pub small : next ≤ 2 * done
-  pub same : slotsFrom next (drop done es) ≡ slotsFrom 0 es
+  pub same : rightFrom next (drop done es) ≡ entriesRight es
+  pub written : Written (keysOf es) long done codes
 
-pub slots-from : {n : ℕ} (es : List Entry) → Slots es n 0 0
-slots-from es = record { within = omega arith; small = omega arith; same = refl }
+pub right-from : (es : List Entry) {codes : List ℕ} → length es ≤ length codes → Right es (length codes) 0 0 codes
+right-from es l =
+    record { small = omega arith; same = refl; written = written-none (rw (length-map es _) l) }
 
-module _ {es : List Entry} {n done next : ℕ} {e : Entry} (s : Slots es n done next)
+module _ {es : List Entry} {codes : List ℕ} {n long done next : ℕ} {e : Entry} (s : Right es long done next codes)
     (many : n ≡ length es) (l : done < n) (read : e ≡ getD es done noEntry)
   where
-    one-more : slotsFrom next (drop done es)
-        ≡ (eqb (e .slot .0) next && slotsFrom (next + width (e .attributes)) (drop (done + 1) es))
-    one-more = rw (drop-cons es done noEntry (omega arith), add-one, read)
+    one-more : rightFrom next (drop done es)
+        ≡ ((goodEntry e && eqb (e .slot .0) next) && rightFrom (next + width (e .attributes)) (drop (done + 1) es))
+    one-more =
+        rw (drop-cons es done noEntry (omega arith), add-one, read)
+        (first-right (getD es done noEntry) next (drop (suc done) es))
 
-    pub slot-wrong : eqb (e .slot .0) next ≡ false → false ≡ slotsFrom 0 es
-    slot-wrong f = sym (one-more ∙ rw f) ∙ s .same
+    pub entry-wrong : {b : Bool} → b ≡ (goodEntry e && eqb (e .slot .0) next) → b ≡ false → false ≡ entriesRight es
+    entry-wrong f g = sym (one-more ∙ rw (← f, g)) ∙ s .same
 
-    pub slot-right : {w : ℕ} → eqb (e .slot .0) next ≡ true → w ≡ width (e .attributes)
-        → Slots es n (done + 1) (next + w)
-    slot-right f wide =
+    pub entry-next : {b : Bool} {w p : ℕ} → b ≡ (goodEntry e && eqb (e .slot .0) next) → b ≡ true
+        → w ≡ width (e .attributes) → p ≡ done → Right es long (done + 1) (next + w) (set codes p (e .key))
+    entry-next f g wide at =
         let small = s .small in
         let narrow-one = narrow (e .attributes) in
+        let long-keys = length-map es (λ (x : Entry). x .key) in
         record {
-          within = omega arith;
           small = omega arith;
-          same = rw wide (sym (one-more ∙ rw f) ∙ s .same);
+          same = rw wide (sym (one-more ∙ rw (← f, g)) ∙ s .same);
+          written =
+              written-next (s .written) (omega arith) at
+              (ap (λ (x : Entry). x .key) read ∙ sym (List·getD-map (λ (x : Entry). x .key) es done noEntry));
         }
 
-pub slots-all : {es : List Entry} {n done next : ℕ} → Slots es n done next → n ≡ length es → n ≤ done
-    → true ≡ slotsFrom 0 es
-slots-all {es} {n} {done} {next} s many l =
-    let within = s .within in
-    let all : done ≡ length es = omega arith in
-    rw (all, drop-length es) at (s .same)
+module _ {es : List Entry} {codes : List ℕ} {n long done next : ℕ} (s : Right es long done next codes)
+    (many : n ≡ length es) (l : n ≤ done)
+  where
+    pub right-all : true ≡ entriesRight es
+    right-all =
+        let long-keys = length-map es (λ (x : Entry). x .key) in
+        let within = s .written .within in
+        let all : done ≡ length es = omega arith in
+        rw (all, drop-length es) at (s .same)
 
--- An entry of a table whose entries are good.
-pub attributes-good : (es : List Entry) (k : ℕ) {e : Entry} → every goodEntry es ≡ true
-    → e ≡ getD es k noEntry → e .attributes ≤ 31
-attributes-good es k {e} h read =
-    rw read
-    (leb-true _ 31
-    (and-both (goodKey (getD es k noEntry .key)) (every-place noEntry goodEntry es refl h (suc k)) .1))
+    pub keys-written : take (length es) codes ≡ keysOf es
+    keys-written =
+        let long-keys = length-map es (λ (x : Entry). x .key) in
+        written-all (s .written) (sym long-keys) (omega arith)
 
 -- ## One table, and all of them
 
 module _ (es : List Entry) where
-  pub entries-bad : {b : Bool} → b ≡ every goodEntry es → b ≡ false → false ≡ goodEntries es
-  entries-bad e f = rw (← e, f, and-false)
+  parts : goodEntries es ≡ (distinct (keysOf es) && entriesRight es)
+  parts = and-assoc (distinct (keysOf es)) (every goodEntry es) (slotsFrom 0 es)
 
-  pub slots-bad : {c : Bool} → c ≡ slotsFrom 0 es → c ≡ false → false ≡ goodEntries es
-  slots-bad e f = rw (← e, f, and-false)
+  pub entries-wrong : {b : Bool} → b ≡ entriesRight es → b ≡ false → false ≡ goodEntries es
+  entries-wrong e f = sym (parts ∙ rw (← e, f, and-false))
 
-  pub keys-decide : {b c d : Bool} → b ≡ every goodEntry es → b ≡ true → c ≡ slotsFrom 0 es → c ≡ true
-      → d ≡ distinct (keysOf es) → d ≡ goodEntries es
-  keys-decide e f g h k = k ∙ rw (← e, f, ← g, h, and-true, and-true)
+  pub keys-decide : {b d : Bool} → b ≡ entriesRight es → b ≡ true → d ≡ distinct (keysOf es) → d ≡ goodEntries es
+  keys-decide e f k = k ∙ sym (parts ∙ rw (← e, f, and-true))
 
 abbrev pub goodTable : ℕ × Table → Bool
 goodTable p = onTable (λ t es. goodEntries es) p

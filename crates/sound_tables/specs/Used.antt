@@ -91,68 +91,77 @@ module _ (counts : List ℕ) (s : Shape) where
           at (inr q) =
               rw (ne-eqb (s .table) t (λ r. q (sym r)), add-zero) (getD-set-other counts (s .table) t new 0 q)
 
--- So many shapes are counted.
-pub record CountingUsers (m : Model) (done : ℕ) (counts : List ℕ) : Type 0 where
-  pub long : length counts ≡ 65536
-  pub each : (t : ℕ) → t < 65536 → Counting (uses t) (m .shapes) done (getD counts t 0)
+-- There is a place for each table, and for 0.
+abbrev pub Roomy : Model → (counts : List ℕ) → Type 0
+Roomy m counts = length (m .tables) < length counts
 
-pub users-from : (m : Model) {counts : List ℕ} → counts ≡ replicate 65536 0 → CountingUsers m 0 counts
-users-from m e =
+-- So many shapes are counted.
+pub record CountingUsers (m : Model) (many done : ℕ) (counts : List ℕ) : Type 0 where
+  pub long : length counts ≡ many
+  pub roomy : Roomy m counts
+  pub each : (t : ℕ) → t < length counts → Counting (uses t) (m .shapes) done (getD counts t 0)
+
+pub users-from : (m : Model) {n : ℕ} {counts : List ℕ} → length (m .tables) < n → counts ≡ replicate n 0
+    → CountingUsers m (length counts) 0 counts
+users-from m {n} {counts} room e =
+    let long : length counts ≡ n = ap length e ∙ length-replicate {A = ℕ} n 0 in
     record {
-      long = ap length e ∙ length-replicate {A = ℕ} 65536 0;
-      each = λ t h. rw (e, getD-replicate {A = ℕ} 65536 t 0 0 h) (count (uses t) (m .shapes));
+      long = refl;
+      roomy = omega arith;
+      each = λ t h. rw (e, getD-replicate {A = ℕ} n t 0 0 (omega arith)) (count (uses t) (m .shapes));
     }
 
 -- All are counted.
 pub record Users (m : Model) (counts : List ℕ) : Type 0 where
-  pub long : length counts ≡ 65536
-  pub each : (t : ℕ) → t < 65536 → getD counts t 0 ≡ users m t
+  pub roomy : Roomy m counts
+  pub each : (t : ℕ) → t < length counts → getD counts t 0 ≡ users m t
 
-pub users-all : {m : Model} {n done : ℕ} {counts : List ℕ} → CountingUsers m done counts
+pub users-all : {m : Model} {many n done : ℕ} {counts : List ℕ} → CountingUsers m many done counts
     → n ≡ length (m .shapes) → n ≤ done → Users m counts
-users-all c many l =
-    record { long = c .long; each = λ t h. counted-all (uses t) (c .each t h) (omega arith) }
+users-all c all l =
+    record { roomy = c .roomy; each = λ t h. counted-all (uses t) (c .each t h) (omega arith) }
 
 -- ## Shapes in range
 
 module _ {ws : List ℕ} (f : Formed ws) (ranged : inRange (parse ws) ≡ true) where
-  pub shape-sited : (counts : List ℕ) (k : ℕ) {s : Shape} → length counts ≡ 65536
+  pub shape-sited : (counts : List ℕ) (k : ℕ) {s : Shape} → Roomy (parse ws) counts
       → s ≡ shapeAt (parse ws) (k + 1) → Sited counts s
-  shape-sited counts k long read inUse =
-      let few = f .limited .tables in
+  shape-sited counts k roomy read inUse =
       let low = shape-ranges (parse ws) ranged (k + 1) (rw (← read) inUse) .table in
       rw read (omega arith)
 
-  module _ {n done : ℕ} {counts : List ℕ} {s : Shape} (c : CountingUsers (parse ws) done counts)
-      (many : n ≡ length (parse ws .shapes)) (l : done < n) (read : s ≡ shapeAt (parse ws) (done + 1))
+  module _ {n many done : ℕ} {counts : List ℕ} {s : Shape} (c : CountingUsers (parse ws) many done counts)
+      (all : n ≡ length (parse ws .shapes)) (l : done < n) (read : s ≡ shapeAt (parse ws) (done + 1))
     where
       pub shape-countable : Countable counts s
       shape-countable =
           record {
-            sited = shape-sited counts done (c .long) read;
+            sited = shape-sited counts done (c .roomy) read;
             small = λ inUse.
                 let few = f .limited .shapes in
-                let sited = shape-sited counts done (c .long) read inUse in
-                let its = c .each (s .table) (rw (← (c .long)) sited) in
+                let its = c .each (s .table) (shape-sited counts done (c .roomy) read inUse) in
                 let counted = its .few in
                 omega arith;
           }
 
       pub users-next : {after : List ℕ} → after ≡ withUser counts s
-          → CountingUsers (parse ws) (done + 1) after
-      users-next e =
+          → CountingUsers (parse ws) many (done + 1) after
+      users-next {after} e =
+          let same : length after ≡ length counts = ap length e ∙ length-user counts s in
+          let roomy = c .roomy in
           record {
-            long = ap length e ∙ length-user counts s ∙ c .long;
+            long = same ∙ c .long;
+            roomy = omega arith;
             each = λ t h.
-                rw (e, count-user counts s t (shape-sited counts done (c .long) read))
-                (count-next (uses t) (c .each t h) noShape (omega arith)
+                rw (e, count-user counts s t (shape-sited counts done (c .roomy) read))
+                (count-next (uses t) (c .each t (rw same at h)) noShape (omega arith)
                 (ap (uses t) (read ∙ shape-next (parse ws) done)) refl);
           }
 
 -- ## Each table in use
 
 pub table-users : {m : Model} {counts : List ℕ} {t place : ℕ} {b : Bool} (x : Table) → Users m counts
-    → t < 65536 → place ≡ t → b ≡ freeTable x → (b || leb 1 (getD counts place 0)) ≡ tableUsed m (t, x)
+    → t < length counts → place ≡ t → b ≡ freeTable x → (b || leb 1 (getD counts place 0)) ≡ tableUsed m (t, x)
 table-users free u l e q = rw q
 table-users {t = t} (used es) u l e q = rw (q, e, u .each t l)
 
@@ -174,7 +183,7 @@ alone-at {m} {counts} k {s} u sited read e =
     go : (b : Bool) → freeShape s ≡ b
         → aloneIn counts s ≡ (b || (not (unique s) || eqb (users m (s .table)) 1))
     go true f = rw (eqb-true (s .state) 0 f)
-    go false f = rw (u .each (s .table) (rw (← (u .long)) (sited f)))
+    go false f = rw (u .each (s .table) (sited f))
 
 -- ## Both
 

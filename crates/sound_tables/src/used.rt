@@ -5,10 +5,12 @@ use store::image::get_shape;
 use store::image::shape_count;
 use store::image::table_count;
 use store::image::table_is_free;
+use store::rows::clear;
 use store::rows::wide;
 ghost use mathlib.Core.Path.{_≡_};
 ghost use mathlib.Core.Bool.{Bool};
-ghost use lib.ListN.{length, replicate};
+ghost use Prim.Native.Nat.{_<_};
+ghost use lib.ListN.{length};
 ghost use Rattle.store.specs.Model.{tableAt};
 ghost use Rattle.store.specs.Layout.{parse};
 ghost use Rattle.store.specs.Image.{Formed, Place};
@@ -32,9 +34,10 @@ fn count_user(users: &mut [u32], s: Shape)
 fn count_users(image: &[u32], users: &mut [u32])
     requires { ⌜ Formed (now image) ⌝ }
     requires { ⌜ inRange (parse (now image)) ≡ Bool.true ⌝ }
-    requires { ⌜ now users ≡ replicate 65536 0 ⌝ }
+    requires { ⌜ length (parse (now image) .tables) < length (now users) ⌝ }
     ensures { λ _. ⌜ Users (parse (now (image .entry))) (now (users .exit)) ⌝ }
 {
+    clear(users);
     let count = shape_count(image);
     let mut done = 0;
     while done < count {
@@ -99,15 +102,26 @@ fn every_unique_alone(image: &[u32], users: &[u32]) -> bool
     true
 }
 
-pub fn tables_used(image: &[u32]) -> bool
+fn users_fit(image: &[u32], users: &mut [u32]) -> bool
     requires { ⌜ Formed (now image) ⌝ }
     requires { ⌜ inRange (parse (now image)) ≡ Bool.true ⌝ }
+    requires { ⌜ length (parse (now image) .tables) < length (now users) ⌝ }
     ensures { λ r. ⌜ r ≡ tablesUsed (parse (now (image .entry))) ⌝ }
 {
-    let mut users = [0u32; 65536];
-    count_users(image, &mut users);
-    if !every_table_used(image, &users) {
+    count_users(image, users);
+    if !every_table_used(image, users) {
         return false;
     }
-    every_unique_alone(image, &users)
+    every_unique_alone(image, users)
+}
+
+// No more of the room is cleared than there are tables.
+pub fn tables_used(image: &[u32], room: &mut [u32]) -> bool
+    requires { ⌜ Formed (now image) ⌝ }
+    requires { ⌜ inRange (parse (now image)) ≡ Bool.true ⌝ }
+    requires { ⌜ length (parse (now image) .tables) < length (now room) ⌝ }
+    ensures { λ r. ⌜ r ≡ tablesUsed (parse (now (image .entry))) ⌝ }
+{
+    let end = wide(table_count(image)) + 1;
+    users_fit(image, &mut room[0..end])
 }

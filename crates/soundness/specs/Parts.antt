@@ -2,7 +2,7 @@
 -- Assumes nothing.
 use mathlib.Core.Path.{_≡_, refl, sym, ap, _∙_}
 use Prim.Native.Nat.{ℕ}
-use mathlib.Core.Bool.{Bool, true, false, _&&_, not, true≢false}
+use mathlib.Core.Bool.{Bool, true, false, _&&_, not, and-assoc, and-comm, and-true, true≢false}
 use mathlib.Core.List.{List, [], _∷_}
 use Rattle.store.specs.Lists.{all}
 use Rattle.store.specs.Model.{Model}
@@ -12,6 +12,7 @@ use Rattle.rules.specs.Sound.{inRange, tableInUse, freeZero, tablesGood, tables
 use Rattle.rules.specs.Sound.{childrenLinked, childrenStepped, edgesDiffer, edgesGood, transitionsLimited}
 use Rattle.rules.specs.Sound.{holdsLimited, uniquesZero, modelSentences, soundModel, wordSentences, soundWords}
 use Rattle.rules.specs.Sound.{sound}
+use Rattle.sound_shapes.specs.Tests.{TablesKnown}
 
 -- A shape's own fields.
 abbrev pub ownSentences : Model → List Bool
@@ -67,19 +68,23 @@ sound-parts m = same-tests (soundModel m) (fieldsSound m && linksSound m) there 
         passed-all (modelSentences m)
         (ranges and inUse and zero and good and used and fit and roots and last)
 
--- What the links are read with.
-pub record Fields (m : Model) : Type 0 where
-  pub ranges : inRange m ≡ true
-  pub inUse : tableInUse m ≡ true
-  pub counts : countsFit m ≡ true
-  pub good : tablesGood m ≡ true
+-- Those of the children, then those of the edges.
+pub link-parts : (m : Model)
+    → linksSound m ≡ ((childrenLinked m && childrenStepped m) && (edgesGood m && edgesDiffer m))
+unfolding linksSound
+link-parts m = rw (and-comm (edgesGood m) (edgesDiffer m)) (simp (and-assoc, and-true))
 
-pub fields-known : (m : Model) → fieldsSound m ≡ true → Fields m
+-- What the links are read with.
+pub tables-known : (m : Model) → fieldsSound m ≡ true → TablesKnown m
 unfolding fieldsSound
-fields-known m e =
+tables-known m e =
     let (ranges, (own, (good, _))) = all-passed (fieldSentences m) e in
     let (inUse, (fit, _)) = all-passed (ownSentences m) own in
-    record { ranges = ranges; inUse = inUse; counts = fit; good = good }
+    record { ranges = ranges; inUse = inUse; good = good; counts = fit }
+
+pub free-known : (m : Model) → fieldsSound m ≡ true → freeZero m ≡ true
+unfolding fieldsSound
+free-known m e = let (_, (_, (_, (zero, _)))) = all-passed (fieldSentences m) e in zero
 
 -- Three tests that are all made.
 pub all-three : {a b c x y z : Bool} → a ≡ x → b ≡ y → c ≡ z → (a && b && c) ≡ all (x ∷ y ∷ z ∷ [])
@@ -105,7 +110,9 @@ test-passed false e f = absurd (true≢false f)
 module _ (ws : List ℕ) where
   sound-words : sound ws ≡ (goodLimits (limitsIn ws) && goodHeader ws && tidyTables ws && soundModel (parse ws))
   unfolding sound soundWords
-  sound-words = ap (λ (b : Bool). b && soundModel (parse ws)) (go (goodLimits (limitsIn ws)) (goodHeader ws) (tidyTables ws))
+  sound-words =
+      ap (λ (b : Bool). b && soundModel (parse ws))
+      (go (goodLimits (limitsIn ws)) (goodHeader ws) (tidyTables ws))
     where
       go : (x y z : Bool) → all (x ∷ y ∷ z ∷ []) ≡ (x && y && z)
       go x y z = sym (all-three {a = x} {b = y} {c = z} refl refl refl)

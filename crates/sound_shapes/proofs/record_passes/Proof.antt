@@ -73,20 +73,11 @@ shape-is-good-requires c κs =
 enum-told-6 : tie.Need-enum-told-6
 enum-told-6 c = search needs
 
-differs-from-later-requires : tie.Need-differs-from-later-requires
-differs-from-later-requires c κs =
-    let pre = c .before .before .before .pre in
-    let enum-told6 = c .enum-told6 in
-    (pre .0, rw (enum-told6 .given .1) at (pre .1 .1))
-
-enum-told-7 : tie.Need-enum-told-7
-enum-told-7 c = search needs
-
 edge-is-good-requires : tie.Need-edge-is-good-requires
 edge-is-good-requires c κs =
     let pre = c .before .before .before .pre in
-    let enum-told7 = c .enum-told7 in
-    (pre .0, (rw (enum-told7 .given .1) at (pre .1 .0), rw (enum-told7 .given .1) at (pre .1 .1)))
+    let enum-told6 = c .enum-told6 in
+    (pre .0, (rw (enum-told6 .given .1) at (pre .1 .0), rw (enum-told6 .given .1) at (pre .1 .1)))
 
 returns : tie.Need-returns
 unfolding passes
@@ -134,11 +125,8 @@ unfolding passes
 returns-5 c = rw (c .before .enum-told5 .given .1) (c .shape-is-good .ensures)
 
 returns-6 : tie.Need-returns-6
-returns-6 c = rw (c .before .enum-told6 .given .1) (c .differs-from-later .ensures)
-
-returns-7 : tie.Need-returns-7
 unfolding passes
-returns-7 c = rw (c .before .enum-told7 .given .1) (c .edge-is-good .ensures)
+returns-6 c = rw (c .before .enum-told6 .given .1) (c .edge-is-good .ensures)
 
 pub record-passes-spec : {M : Type 1} → statement M
 record-passes-spec =
@@ -162,13 +150,10 @@ record-passes-spec =
     enum-told-5
     shape-is-good-requires
     enum-told-6
-    differs-from-later-requires
-    enum-told-7
     edge-is-good-requires
     returns
     returns-2
     returns-3
     returns-4
     returns-5
-    returns-6
-    returns-7)
+    returns-6)

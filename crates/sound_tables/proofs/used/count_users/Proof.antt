@@ -10,32 +10,38 @@ use Rattle.sound_tables.proofs.used.count_users.Statement.{statement}
 use Rattle.sound_tables.proofs.used.count_users.Tie as tie
 
 abbrev Inv-loop : tie.InvT-loop
-Inv-loop image users₀ count done₀ users done = CountingUsers (parse image) done users
+Inv-loop image users₀ count done₀ users done = CountingUsers (parse image) (length users₀) done users
 
 abbrev μ-loop : tie.MeasureT-loop
 μ-loop image users₀ count done₀ users done = count - done
+
+clear-requires : tie.Need-clear-requires Inv-loop μ-loop
+clear-requires c κs = search needs
 
 shape-count-requires : tie.Need-shape-count-requires Inv-loop μ-loop
 shape-count-requires c κs = search needs
 
 loop-holds : tie.Need-loop-holds Inv-loop μ-loop
-loop-holds c = users-from _ (c .before .before .before .pre .1 .1)
+loop-holds c =
+    let pre = c .before .before .before .before .before .before .before .pre in
+    let clear = c .before .before .before .clear in
+    users-from _ (pre .1 .1) (clear .ensures)
 
 add-get-shape : tie.Need-add-get-shape Inv-loop μ-loop
 add-get-shape c =
     let shape-count = c .before .before .before .shape-count in
-    let pre = c .before .before .before .before .before .before .pre in
+    let pre = c .before .before .before .before .before .before .before .before .before .before .pre in
     omega (arith, shape-count .ensures, pre .0 .limited .shapes)
 
 get-shape-requires : tie.Need-get-shape-requires Inv-loop μ-loop
 get-shape-requires c κs =
-    let pre = c .before .before .before .before .before .before .pre in
+    let pre = c .before .before .before .before .before .before .before .before .before .before .pre in
     let shape-count = c .before .before .before .shape-count in
     (pre .0, record { low = omega arith; high = omega (arith, shape-count .ensures) })
 
 count-user-requires : tie.Need-count-user-requires Inv-loop μ-loop
 count-user-requires c κs =
-    let pre = c .before .before .before .before .before .before .before .pre in
+    let pre = c .before .before .before .before .before .before .before .before .before .before .before .pre in
     let loop = c .before .before .before .loop in
     let shape-count = c .before .before .before .before .shape-count in
     let loop-test = c .before .before .loop-test in
@@ -46,7 +52,7 @@ count-user-requires c κs =
 add-done : tie.Need-add-done Inv-loop μ-loop
 add-done c =
     let shape-count = c .before .before .before .before .before .before .before .shape-count in
-    let pre = c .before .before .before .before .before .before .before .before .before .before .pre in
+    let pre = c .before .before .before .before .before .before .before .before .before .before .before .before .before .before .pre in
     omega (arith, shape-count .ensures, pre .0 .limited .shapes)
 
 loop-less : tie.Need-loop-less Inv-loop μ-loop
@@ -54,7 +60,7 @@ loop-less c = search needs
 
 loop-again : tie.Need-loop-again Inv-loop μ-loop
 loop-again c =
-    let pre = c .before .before .before .before .before .before .before .before .before .before .pre in
+    let pre = c .before .before .before .before .before .before .before .before .before .before .before .before .before .before .pre in
     let loop = c .before .before .before .before .before .before .loop in
     let shape-count = c .before .before .before .before .before .before .before .shape-count in
     let loop-test = c .before .before .before .before .before .loop-test in
@@ -65,9 +71,9 @@ loop-again c =
 
 same-length : tie.Need-same-length Inv-loop μ-loop
 same-length c =
+    let clear = c .before .before .before .before .before .clear in
     let loop = c .before .loop in
-    let pre = c .before .before .before .before .before .pre in
-    loop .inv .long ∙ sym (ap length (pre .1 .1) ∙ length-replicate {A = ℕ} 65536 0)
+    loop .inv .long ∙ ap length (clear .ensures) ∙ length-replicate {A = ℕ} _ 0
 
 returns : tie.Need-returns Inv-loop μ-loop
 returns c = users-all (c .before .loop .inv) (c .before .before .shape-count .ensures) (c .loop-test .left)
@@ -78,6 +84,7 @@ count-users-spec =
     (tie.spec
     Inv-loop
     μ-loop
+    clear-requires
     shape-count-requires
     loop-holds
     add-get-shape

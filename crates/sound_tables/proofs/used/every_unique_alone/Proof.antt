@@ -43,7 +43,7 @@ unique-alone-requires c κs =
     let pre = c .before .before .before .before .before .before .pre in
     let args = c .before .before .before .before .before .before .args in
     let get-shape = c .get-shape in
-    shape-sited (pre .0) (pre .1 .0) (now (args .users)) _ (pre .1 .1 .long) (get-shape .ensures)
+    shape-sited (pre .0) (pre .1 .0) (now (args .users)) _ (pre .1 .1 .roomy) (get-shape .ensures)
 
 returns : tie.Need-returns Inv-loop μ-loop
 returns c =
@@ -57,7 +57,7 @@ returns c =
     let shape-count = c .before .before .before .before .before .shape-count in
     stopped (loop .inv) (shape-count .ensures) (loop-test .taken)
     (ap not (alone-at _ (pre .1 .1)
-    (shape-sited (pre .0) (pre .1 .0) (now (args .users)) _ (pre .1 .1 .long) (get-shape .ensures))
+    (shape-sited (pre .0) (pre .1 .0) (now (args .users)) _ (pre .1 .1 .roomy) (get-shape .ensures))
     (get-shape .ensures) (unique-alone .ensures))) (if1 .taken)
 
 add-done : tie.Need-add-done Inv-loop μ-loop
@@ -81,7 +81,7 @@ loop-again c =
     let shape-count = c .before .before .before .before .before .shape-count in
     went-on (loop .inv) (shape-count .ensures) (loop-test .taken)
     (ap not (alone-at _ (pre .1 .1)
-    (shape-sited (pre .0) (pre .1 .0) (now (args .users)) _ (pre .1 .1 .long) (get-shape .ensures))
+    (shape-sited (pre .0) (pre .1 .0) (now (args .users)) _ (pre .1 .1 .roomy) (get-shape .ensures))
     (get-shape .ensures) (unique-alone .ensures))) (if1 .left)
 
 returns-2 : tie.Need-returns-2 Inv-loop μ-loop

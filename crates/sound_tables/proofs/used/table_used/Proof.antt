@@ -21,7 +21,7 @@ shared-slice-read-result : tie.Need-shared-slice-read-result
 shared-slice-read-result c =
     let wide = c .before .before .wide in
     let pre = c .before .before .before .before .before .pre in
-    omega (arith, wide .ensures, pre .1 .1 .long, pre .1 .0 .high, pre .0 .limited .tables)
+    omega (arith, wide .ensures, pre .1 .1 .roomy, pre .1 .0 .high)
 
 returns : tie.Need-returns
 returns c =
@@ -30,7 +30,7 @@ returns c =
     let wide = c .before .before .wide in
     let table-is-free = c .before .table-is-free in
     table-users (tableAt (parse (now (args .image))) (args .t)) (pre .1 .1)
-    (omega (arith, pre .1 .0 .high, pre .0 .limited .tables)) (wide .ensures) (table-is-free .ensures)
+    (omega (arith, pre .1 .1 .roomy, pre .1 .0 .high)) (wide .ensures) (table-is-free .ensures)
 
 pub table-used-spec : {M : Type 1} → statement M
 table-used-spec =
