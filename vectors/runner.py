@@ -33,14 +33,14 @@ class Shape:
 
 
 class Image:
-    """Shapes and tables by place; an edge is [parent, kind, key or prototype, attributes, child (0 dead)]."""
+    """Shapes, tables and edges by place; an edge is [parent, kind, key or prototype, attributes, child (0 dead)]."""
 
     def __init__(self, shapes=None, tables=None, edges=None):
-        self.shapes, self.tables, self.edges = shapes or {}, tables or {}, edges or []
+        self.shapes, self.tables, self.edges = shapes or {}, tables or {}, edges or {}
 
     def copy(self):
         return Image({n: s.copy() for n, s in self.shapes.items()}, {t: list(es) for t, es in self.tables.items()},
-                     [list(e) for e in self.edges])
+                     {n: list(e) for n, e in self.edges.items()})
 
     # -- places: "The lowest free place is always taken"
 
@@ -66,12 +66,12 @@ class Image:
     # -- one step from a shared shape
 
     def prune(self, n, kind):
-        self.edges = [e for e in self.edges if not (e[0] == n and e[1] == kind and e[4] == 0)]
+        self.edges = {p: e for p, e in self.edges.items() if not (e[0] == n and e[1] == kind and e[4] == 0)}
 
     def step(self, n, kind, label, attributes=0):
         parent = self.shapes[n]
         edge_kind = "prototype" if kind == "prototype" else "property"
-        edge = next((e for e in self.edges if e[:4] == [n, edge_kind, label, attributes]), None)
+        edge = next((e for e in self.edges.values() if e[:4] == [n, edge_kind, label, attributes]), None)
         if edge and edge[4]:
             return edge[4]
         if edge:
@@ -100,7 +100,7 @@ class Image:
         parent.counters[edge_kind] = (parent.counters[edge_kind] + 1) % 256
         if len(self.edges) == E:
             raise Refused(10)
-        self.edges.append([n, edge_kind, label, attributes, place])
+        self.edges[next(p for p in range(1, E + 1) if p not in self.edges)] = [n, edge_kind, label, attributes, place]
         return place
 
     def steps(self, n, steps):
@@ -213,7 +213,7 @@ class Image:
         shapes, tables = len(self.shapes), len(self.tables)
         self.shapes = {n: s for n, s in self.shapes.items() if n in kept}
         self.tables = {t: es for t, es in self.tables.items() if any(s.table == t for s in self.shapes.values())}
-        self.edges = [e[:4] + [e[4] if e[4] in kept else 0] for e in self.edges if e[0] in kept]
+        self.edges = {p: e[:4] + [e[4] if e[4] in kept else 0] for p, e in self.edges.items() if e[0] in kept}
         return shapes - len(self.shapes), tables - len(self.tables), 0
 
 
@@ -254,10 +254,15 @@ def answer(image, line):
         return image, (refusal.args[0], 0, 0, 0)
 
 
-def main():
+def input_of(program):
+    """Standard input if the argument is `-`, else what the gate runs the program on."""
     root = Path(__file__).resolve().parent.parent
-    text = sys.stdin.buffer.read() if sys.argv[1:] == ["-"] else (root / "crates/runner/stdin").read_bytes()
-    *lines, unended = text.split(b"\n")
+    text = sys.stdin.buffer.read() if sys.argv[1:] == ["-"] else (root / "crates" / program / "stdin").read_bytes()
+    return text.split(b"\n")
+
+
+def main():
+    *lines, unended = input_of("runner")
     image = Image()
     for line in lines:
         image, numbers = answer(image, line)
@@ -266,4 +271,5 @@ def main():
         print(14, 0, 0, 0)
 
 
-main()
+if __name__ == "__main__":
+    main()

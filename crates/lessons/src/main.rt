@@ -1,7 +1,8 @@
 // Document 01's lesson sheet through the public calls. A line of the output is to be read beside the document's: the
 // action, and the shape that the steps lead to, with its keys in the order of the key list, each with its attributes
-// and its slot index.
+// and its slot index. Then the refusals that no short step file meets.
 use replies::ReplyNumbers;
+use replies::done_numbers;
 use replies::keys_numbers;
 use replies::lookup_numbers;
 use replies::question_numbers;
@@ -29,7 +30,9 @@ const REMOVE: u32 = 2;
 
 const PROTOTYPE: u32 = 3;
 
-// The first shape's counters, behind the header's 8 words.
+// The first shape's state and counters, behind the header's 8 words.
+const ROOT_STATE: usize = 8;
+
 const ROOT_PROPERTY_COUNTER: usize = 8 + 8;
 
 const ROOT_PROTOTYPE_COUNTER: usize = 8 + 9;
@@ -265,6 +268,44 @@ fn lesson_11(name: &[u8], image: &mut [u32], kind: u32) {
     print_counters(name, image);
 }
 
+fn print_refusal(event: &[u8], reply: ReplyNumbers) {
+    io::write_all(1, event);
+    print_number(b": refusal ", reply.refusal);
+    io::write_all(1, b"\n");
+}
+
+fn bad_size(image: &mut [u32]) {
+    let no_edges = Limits {
+        S: 1026,
+        T: 256,
+        K: 4,
+        E: 0,
+    };
+    print_refusal(b"no edges", done_numbers(shapes::format(image, no_edges)));
+}
+
+fn out_short(image: &mut [u32]) {
+    let root = new_root(image);
+    let shape = walk(image, root, &[INSERT, A, 7, INSERT, B, 7]);
+    let mut list = [0u32; 1];
+    let reply = keys_numbers(shapes::keys(image, shape.first, &mut list));
+    print_refusal(b"a list of two keys into one word", reply);
+}
+
+// There is no state 3.
+fn damage_root(image: &mut [u32]) {
+    if image.len() > ROOT_STATE {
+        image[ROOT_STATE] = 3;
+    }
+}
+
+fn damaged(image: &mut [u32]) {
+    let root = new_root(image);
+    damage_root(image);
+    let reply = question_numbers(shapes::prototype(image, root.first));
+    print_refusal(b"a damaged image", reply);
+}
+
 fn main() {
     let mut image = [0u32; 18716];
     let one = lesson_1(&mut image);
@@ -278,4 +319,7 @@ fn main() {
     lesson_10(&mut image);
     lesson_11(b"11, keys", &mut image, INSERT);
     lesson_11(b"11, prototypes", &mut image, PROTOTYPE);
+    bad_size(&mut image);
+    out_short(&mut image);
+    damaged(&mut image);
 }

@@ -6,7 +6,7 @@ ghost use Rattle.lines.specs.Decimal.{decimalDigits};
 ghost use Rattle.lines.specs.Writing.{replyText, Written, Ended};
 
 // In decimal, without leading zeros: the digits before the last first.
-fn write_number(out: &mut [u8], at: usize, n: u32) -> usize
+pub fn write_number(out: &mut [u8], at: usize, n: u32) -> usize
     requires { ⌜ at + length (decimalDigits n) ≤ length (now out) ⌝ }
     ensures { λ r. ⌜ Written (now (out .entry)) (now (out .exit)) at (decimalDigits n) r ⌝ }
 {

@@ -39,6 +39,9 @@ pub record Answered (before after : List ℕ) (answer : Model × List ℕ) (numb
   pub isSound : Sound (answer .0)
   pub its : numbers ≡ answer .1
 
+pub ready-again : {before after : List ℕ} {m : Model} → Becomes before after m → Sound m → Ready after
+ready-again b s = record { formed = b .formed; isSound = rw (b .parsed) s }
+
 module _ {ws : List ℕ} (ready : Ready ws) where
   pub bad-answered : {numbers : List ℕ} → numbers ≡ badLine → Answered ws ws (answerTo (parse ws) none) numbers
   bad-answered e = record { became = unchanged (ready .formed); isSound = ready .isSound; its = e }

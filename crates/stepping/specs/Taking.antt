@@ -16,7 +16,7 @@ use Rattle.rules.specs.Runner.{lineFeed, badLine}
 use Rattle.theorems.specs.Facts.{Sound}
 use Rattle.lines.specs.Writing.{replyText, Written, written-then, length-kept}
 use Rattle.stepping.specs.declared.blocks.BlockEnd.{BlockEnd}
-use Rattle.stepping.specs.Answering.{Ready, Answered}
+use Rattle.stepping.specs.Answering.{Ready, Answered, ready-again}
 use Rattle.stepping.specs.Input.{State, state, stateIn, lineAnswer, byteTaken, byteSaid, line-ends}
 use Rattle.stepping.specs.Input.{line-goes-on, taken, said, taken-more, said-more, lastSaid}
 
@@ -55,7 +55,7 @@ pub record Comes
 
 pub comes-ready : {image₀ image line out₀ out text : List ℕ} {at : ℕ} {s : State} {end : BlockEnd}
     → Comes image₀ image line out₀ out at s text end → Ready image
-comes-ready c = record { formed = c .became .formed; isSound = rw (c .became .parsed) (c .isSound) }
+comes-ready c = ready-again (c .became) (c .isSound)
 
 nothing-written : (out : List ℕ) (at : ℕ) → Written out out at [] at
 nothing-written out at = record { stored = refl; ended = rw add-zero refl }

@@ -32,7 +32,8 @@ fn keep_byte(line: &mut [u8], begun: usize, byte: u8) -> usize
     begun + 1
 }
 
-fn answer_begun(
+// The first bytes of `line` answered as a line, from `written` on.
+pub fn answer_begun(
     image: &mut [u32],
     line: &[u8],
     begun: usize,

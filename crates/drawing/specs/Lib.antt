@@ -1,0 +1,4 @@
+pub mod Graph
+pub mod Parts
+pub mod Rows
+pub mod Room
