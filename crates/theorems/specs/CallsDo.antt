@@ -21,15 +21,15 @@ use Rattle.rules.specs.Shapes.{has, attributesIn, without, shared, unique, isRo
 use Rattle.rules.specs.Shapes.{withHolds}
 use Rattle.rules.specs.Refusals.{Got, ok}
 use Rattle.rules.specs.Settled.{guard-passed, same-given, call-answered}
-use Rattle.rules.specs.Steps.{Placed, fresh}
-use Rattle.rules.specs.Trails.{trail}
+use Rattle.rules.specs.Steps.{Step, Placed, fresh}
+use Rattle.rules.specs.Trails.{trail, root}
 use Rattle.rules.specs.Calls.{Call, newRoot, newUnique, insertKey, changeKey, removeKey, changePrototype}
 use Rattle.rules.specs.Calls.{hold, previous, Answer, Given, Reply, Yes, unheld, grant, grantPrevious}
 use Rattle.rules.specs.Calls.{perform, call}
 use Rattle.rules.specs.InUse.{shared-used}
 use Rattle.theorems.specs.Facts.{Used, Sound, unique-used}
 use Rattle.theorems.specs.Entries.{keys, laid-without-absent}
-use Rattle.theorems.specs.Frame.{Kept, Keeps, kept-used, kept-shared}
+use Rattle.theorems.specs.Frame.{Kept, Keeps, kept-used, kept-shared, kept-root}
 use Rattle.theorems.specs.Holds.{shape-put, grant-keeps}
 use Rattle.theorems.specs.Taken.{bind-passed}
 use Rattle.theorems.specs.Uniques.{OldOne}
@@ -72,7 +72,7 @@ pub record Changed (m : Model) (n : ℕ) (o : Outcome) (ks : List ℕ)
   pub ofUnique : unique (shapeAt m n) ≡ true
       → (unique (shapeAt j c) ≡ true) × OldOne (o .same) j n (o .left) c
   -- a shared shape gives a shared one, or at 1,024 transitions a unique with the same entries and prototype
-  pub ofShared : SharedAt m n → Limited (o .transitions) j c
+  pub ofShared : SharedAt m n → Limited (o .transitions) (o .trail) (root m n) j c
 
 -- What is said of the previous of the shape at n in m: "0, no hold, at a root or unique".
 pub record Previous (m : Model) (n : ℕ) (j : Model) (c : ℕ) (given : ChangeTransitionAction) (count : ℕ)
@@ -96,12 +96,18 @@ record Granted (x : Placed) (action : ChangeTransitionAction)
 
 module _ {j : Model} where
   -- What was said of the shapes before the hold is said of them still.
-  same-limited : {i : Model} {c total : ℕ} → Kept i j c → Limited total i c → Limited total j c
+  same-limited : {i : Model} {c total r : ℕ} {ts : List Step} → Kept i j c → Limited total ts r i c
+      → Limited total ts r j c
   same-limited k l =
       record {
+        itsLength = l .itsLength;
         below = λ few.
-            let (h, count) = l .below few in
-            (kept-shared h k, ap (λ (s : Shape). s .transitions) (k .sameCore) ∙ count);
+            let (h, count, its, from) = l .below few in (
+              kept-shared h k,
+              ap (λ (s : Shape). s .transitions) (k .sameCore) ∙ count,
+              k .sameTrail ∙ its,
+              kept-root k ∙ from,
+            );
         full = λ z. ap unique (k .sameCore) ∙ l .full z;
       }
 
@@ -111,7 +117,11 @@ module _ {j : Model} where
   same-old i k false n q c (other, left) =
       let kept = k .keeps n (left .isUsed) in (
         other,
-        record { isUsed = kept-used (left .isUsed) kept; contents = kept-contents kept (left .contents) },
+        record {
+          isUsed = kept-used (left .isUsed) kept;
+          isUnique = ap unique (kept .sameCore) ∙ left .isUnique;
+          contents = kept-contents kept (left .contents);
+        },
       )
 
 module _ {j : Model} {c : ℕ} {given : ChangeTransitionAction} {count : ℕ} where

@@ -1,9 +1,9 @@
 -- The four changes of a shape in either state, and new shapes: what each gives before its result is held.
 -- Assumes nothing.
 use mathlib.Core.Bool.{true, false, not}
-use mathlib.Core.List.{List, []}
+use mathlib.Core.List.{List, [], _++_}
 use mathlib.Core.Logic.{inl, inr, _≢_}
-use mathlib.Core.Path.{_≡_, refl, _∙_, ap}
+use mathlib.Core.Path.{_≡_, refl, sym, _∙_, ap}
 use Prim.Native.Nat.{ℕ, _+_, _<_}
 use native.Mathlib.Omega.{arith}
 use borrow.Author.Tests.{eqb-true, eqb-false, not-true, not-false}
@@ -26,6 +26,7 @@ use Rattle.rules.specs.Unique.{removed, rebased}
 use Rattle.rules.specs.Sweep.{held}
 use Rattle.rules.specs.Calls.{unheld}
 use Rattle.rules.specs.InUse.{shared-used}
+use Rattle.rules.specs.Trails.{trail, root}
 use Rattle.theorems.specs.Facts.{Used, GoodTable, Sound, unique-used, shared-not-unique}
 use Rattle.theorems.specs.Facts.{shared-or-unique}
 use Rattle.theorems.specs.Frame.{Keeps, keeps-self, keeps-fewer, keeps-again, kept-used}
@@ -36,7 +37,10 @@ use Rattle.theorems.specs.Uniques.{change-unique-keeps, prototype-unique
 use Rattle.theorems.specs.Made.{SharedAt, entriesAt, prototypeAt, transitionsAt, Contents}
 use Rattle.theorems.specs.Made.{own-good, own-count}
 use Rattle.theorems.specs.InTurn.{stepsEntries, stepsPrototype}
+use Rattle.theorems.specs.SameTrail.{trail-length}
 use Rattle.theorems.specs.Rollback.{rolled-back}
+use Rattle.theorems.specs.RollbackOfTrails.{base-root, removal-trail, equal-width-trail}
+use Rattle.theorems.specs.RollbackOfTrails.{other-width-trail}
 use Rattle.theorems.specs.Outcomes.{Outcome, byInsert, byChange, byRemoval, byPrototype}
 use Rattle.theorems.specs.Sequence.{Led, step-led, removal-led, change-led, configure-led}
 use Rattle.theorems.specs.Quiet.{SameHolds, Quiet, fresh-holds, step-holds, removal-holds, change-holds}
@@ -59,9 +63,11 @@ pub record Gives (m : Model) (P : ℕ → Type 0) (es : List Entry) (p : ℕ) (y
   pub contents : Contents (y .0) (y .1) es p
 
 -- "If the final result has 1,024 transitions, a new unique shape .. is returned". The steps lead to `count`
--- transitions, and the shape at n is the answer.
-pub record Limited (count : ℕ) (m : Model) (n : ℕ) : Type 0 where
-  pub below : count ≢ 1024 → SharedAt m n × (transitionsAt m n ≡ count)
+-- transitions, the trail ts and the root r, and the shape at n is the answer.
+pub record Limited (count : ℕ) (ts : List Step) (r : ℕ) (m : Model) (n : ℕ) : Type 0 where
+  pub itsLength : count ≡ length ts
+  pub below : count ≢ 1024
+      → SharedAt m n × (transitionsAt m n ≡ count) × (trail m n ≡ ts) × (root m n ≡ r)
   pub full : count ≡ 1024 → unique (shapeAt m n) ≡ true
 
 -- What a change of the shape at n gives.
@@ -69,7 +75,7 @@ pub record ChangesTo (m : Model) (n : ℕ) (o : Outcome) (y : Placed) : Type 0 w
   pub gives : Gives m (Untouched m n) (o .entries) (o .prototype) y
   pub ofUnique : unique (shapeAt m n) ≡ true
       → (unique (shapeAt (y .0) (y .1)) ≡ true) × OldOne (o .same) (y .0) n (o .left) (y .1)
-  pub ofShared : SharedAt m n → Limited (o .transitions) (y .0) (y .1)
+  pub ofShared : SharedAt m n → Limited (o .transitions) (o .trail) (root m n) (y .0) (y .1)
 
 -- A shape that a call may act on: it is in use, and below 1,024 transitions since it is held.
 pub record MayAct (m : Model) (n : ℕ) : Type 0 where
@@ -115,7 +121,8 @@ module _ (m : Model) (sound : Sound m) where
 
   -- "If the final result has 1,024 transitions, a new unique shape copies its keys and prototype"
   limited-gives : (n : ℕ) → SharedAt m n → (y : Placed) → limited (m, n) ≡ ok y
-      → Gives m (Used m) (entriesAt m n) (prototypeAt m n) y × Limited (transitionsAt m n) (y .0) (y .1)
+      → Gives m (Used m) (entriesAt m n) (prototypeAt m n) y
+      × Limited (transitionsAt m n) (trail m n) (root m n) (y .0) (y .1)
   unfolding limited
   limited-gives n h y e = go (either (eqb (s .transitions) 1024))
     where
@@ -129,14 +136,19 @@ module _ (m : Model) (sound : Sound m) where
       fit t = rw (own-count m sound n u) (fresh-unique 0 (s .properties) (s .prototype) t (omega arith))
 
       go : Decided (eqb (s .transitions) 1024)
-          → Gives m (Used m) (entriesAt m n) (prototypeAt m n) y × Limited (transitionsAt m n) (y .0) (y .1)
+          → Gives m (Used m) (entriesAt m n) (prototypeAt m n) y
+          × Limited (transitionsAt m n) (trail m n) (root m n) (y .0) (y .1)
       go (inl q) =
           let shape = uniqueShape 0 (s .properties) (s .prototype) in
           let f = fresh-keeps m sound shape (entries m s) fit (own-good m sound n u) y (rw q at e) in
           let same = fresh-holds m shape (entries m s) (λ t. refl) y (rw q at e) in
           let full = eqb-true (s .transitions) 1024 q in (
             fresh-gives (s .prototype) f (λ t. refl) (λ t. refl) (λ t. refl) same,
-            record { below = λ few. absurd (few full); full = λ z. ap unique (f .stands) },
+            record {
+              itsLength = sym (trail-length m n);
+              below = λ few. absurd (few full);
+              full = λ z. ap unique (f .stands);
+            },
           )
       go (inr q) =
           let few = eqb-false (s .transitions) 1024 q in
@@ -148,7 +160,11 @@ module _ (m : Model) (sound : Sound m) where
               few = few;
               contents = record { itsEntries = refl; itsPrototype = refl };
             },
-            record { below = λ z. (h, refl); full = λ full. absurd (few full) },
+            record {
+              itsLength = sym (trail-length m n);
+              below = λ z. (h, refl, refl, refl);
+              full = λ full. absurd (few full);
+            },
           )
 
   -- ## A shape in either state
@@ -172,27 +188,32 @@ module _ (m : Model) (sound : Sound m) where
       }
 
 -- What a rule for shared shapes gives before the limit is looked at.
-record Leads (m : Model) (o : Outcome) (x : Placed) : Type 0 where
+record Leads (m : Model) (n : ℕ) (o : Outcome) (x : Placed) : Type 0 where
   keeps : Keeps m (x .0) (Used m)
   isShared : SharedAt (x .0) (x .1)
   itsCount : transitionsAt (x .0) (x .1) ≡ o .transitions
   itsEntries : entriesAt (x .0) (x .1) ≡ o .entries
   itsPrototype : prototypeAt (x .0) (x .1) ≡ o .prototype
+  itsTrail : trail (x .0) (x .1) ≡ o .trail
+  itsRoot : root (x .0) (x .1) ≡ root m n
 
-led-leads : {m : Model} {n : ℕ} {ts : List Step} {x : Placed} (o : Outcome) → Led m n ts x
-    → transitionsAt m n + length ts ≡ o .transitions → stepsEntries ts (entriesAt m n) ≡ o .entries
-    → stepsPrototype ts (prototypeAt m n) ≡ o .prototype → Leads m o x
-led-leads o l count es p =
+led-leads : {m : Model} {b : ℕ} {ts : List Step} {x : Placed} (n : ℕ) (o : Outcome) → Led m b ts x
+    → transitionsAt m b + length ts ≡ o .transitions → stepsEntries ts (entriesAt m b) ≡ o .entries
+    → stepsPrototype ts (prototypeAt m b) ≡ o .prototype → trail m b ++ ts ≡ o .trail
+    → root m b ≡ root m n → Leads m n o x
+led-leads n o l count es p ts r =
     record {
       keeps = l .keeps;
       isShared = l .isShared;
       itsCount = l .itsCount ∙ count;
       itsEntries = l .itsEntries ∙ es;
       itsPrototype = l .itsPrototype ∙ p;
+      itsTrail = l .itsTrail ∙ ts;
+      itsRoot = l .itsRoot ∙ r;
     }
 
 module _ (m : Model) (sound : Sound m) where
-  shared-gives : (n : ℕ) → SharedAt m n → (o : Outcome) (x : Placed) → Leads m o x → SameHolds m (x .0)
+  shared-gives : (n : ℕ) → SharedAt m n → (o : Outcome) (x : Placed) → Leads m n o x → SameHolds m (x .0)
       → (y : Placed) → limited x ≡ ok y → ChangesTo m n o y
   shared-gives n h o (j, c) l same y e =
       let (g, limit) = limited-gives j (l .keeps .isSound) c (l .isShared) y e in
@@ -209,7 +230,7 @@ module _ (m : Model) (sound : Sound m) where
           };
         };
         ofUnique = λ r. not-both r (shared-not-unique (shapeAt m n) h);
-        ofShared = λ h. rw (l .itsCount) at limit;
+        ofShared = λ h. rw (l .itsCount, l .itsTrail, l .itsRoot) at limit;
       }
 
   -- One law for the four changes of a shape in either state.
@@ -217,7 +238,7 @@ module _ (m : Model) (sound : Sound m) where
       → (unique (shapeAt m n) ≡ true → Quiet m forUnique) → Quiet m forShared
       → (unique (shapeAt m n) ≡ true → (y : Placed) → forUnique ≡ ok y
       → Acted m n (o .entries) (o .prototype) (o .same) (o .left) y)
-      → (SharedAt m n → (x : Placed) → forShared ≡ ok x → Leads m o x)
+      → (SharedAt m n → (x : Placed) → forShared ≡ ok x → Leads m n o x)
       → (y : Placed) → (if unique (shapeAt m n) then forUnique else (forShared >>= limited)) ≡ ok y
       → ChangesTo m n o y
   change-gives n u o forUnique forShared quietUnique quietShared acts leads y e =
@@ -256,7 +277,7 @@ module _ (m : Model) (sound : Sound m) where
         (λ r. insert-unique-keeps m sound n r k a key low absent)
         (λ h x e.
         let l = step-led m sound n h (insert k a) (may .below) (both-and key low, rw absent, tt) x e in
-        led-leads (byInsert m n k a) l refl refl refl)
+        led-leads n (byInsert m n k a) l refl refl refl refl refl)
 
     pub changed-gives : (k a : ℕ) → goodKey k ≡ true → goodAttributes a ≡ true → has k es ≡ true
         → (y : Placed) → changed m n k a ≡ ok y → ChangesTo m n (byChange m n k a) y
@@ -268,15 +289,17 @@ module _ (m : Model) (sound : Sound m) where
         (λ h x e. go h x e (either (sameWidth (attributesIn k es) a)))
       where
         go : SharedAt m n → (x : Placed) → changeShared m n k a ≡ ok x
-            → Decided (sameWidth (attributesIn k es) a) → Leads m (byChange m n k a) x
+            → Decided (sameWidth (attributesIn k es) a) → Leads m n (byChange m n k a) x
         go h x e (inl wide) =
             let l = configure-led m sound n k h holds a key low (may .below) wide x e in
-            led-leads (byChange m n k a) l (rw wide) (rw wide) refl
+            led-leads n (byChange m n k a) l (rw wide) (rw wide) refl
+            (equal-width-trail m sound n k h a wide) refl
         go h x e (inr wide) =
             let l = change-led m sound n k h holds a low wide x e in
             let other = shared-not-unique (shapeAt m n) h in
-            led-leads (byChange m n k a) l (rw wide) (rw (wide, other))
+            led-leads n (byChange m n k a) l (rw wide) (rw (wide, other))
             (rolled-back m sound n k h holds .change a low .itsPrototype)
+            (other-width-trail m sound n k h holds a wide) (base-root m sound n k h holds)
 
     pub removed-gives : (k : ℕ) → (SharedAt m n → has k es ≡ true)
         → (y : Placed) → removed m n k ≡ ok y → ChangesTo m n (byRemoval m n k) y
@@ -287,8 +310,9 @@ module _ (m : Model) (sound : Sound m) where
         (λ r y e. rw r (remove-unique-keeps m sound n r k y e))
         (λ h x e.
         let other = shared-not-unique (shapeAt m n) h in
-        led-leads (byRemoval m n k) (removal-led m sound n k h (holds h) x e) refl (rw other)
-        (rolled-back m sound n k h (holds h) .removal .itsPrototype))
+        led-leads n (byRemoval m n k) (removal-led m sound n k h (holds h) x e) refl (rw other)
+        (rolled-back m sound n k h (holds h) .removal .itsPrototype)
+        (removal-trail m sound n k h (holds h)) (base-root m sound n k h (holds h)))
 
     pub rebased-gives : (p : ℕ) (y : Placed) → rebased m n p ≡ ok y → ChangesTo m n (byPrototype m n p) y
     unfolding rebased
@@ -298,4 +322,4 @@ module _ (m : Model) (sound : Sound m) where
         (λ r. prototype-unique-keeps m sound n r p)
         (λ h x e.
         let l = step-led m sound n h (prototype p) (may .below) (refl, refl, tt) x e in
-        led-leads (byPrototype m n p) l refl refl refl)
+        led-leads n (byPrototype m n p) l refl refl refl refl refl)

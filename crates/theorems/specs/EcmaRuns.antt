@@ -130,13 +130,13 @@ AllStand m ls = (n : ℕ) → HeldAt m n → StandsFor m n (ls n)
 -- ## What a call answers
 
 -- The answer is a shape.
-record Shows (a : Answer) : Type 0 where
-  place : ℕ
-  action : ChangeTransitionAction
-  count : ℕ
-  its : a ≡ Given place action count
+pub record Shows (a : Answer) : Type 0 where
+  pub place : ℕ
+  pub action : ChangeTransitionAction
+  pub count : ℕ
+  pub its : a ≡ Given place action count
 
-shows? : (a : Answer) → Shows a ⊎ (grantedBy a ≡ 0)
+pub shows? : (a : Answer) → Shows a ⊎ (grantedBy a ≡ 0)
 shows? (Given n action count) = inl record { place = n; action = action; count = count; its = refl }
 shows? (Freed shapes tables) = inr refl
 shows? Done = inr refl
@@ -145,7 +145,7 @@ shows? NotFound = inr refl
 shows? (Listed count out) = inr refl
 shows? (Number n) = inr refl
 
-grant-shows : (x : Placed) (action : ChangeTransitionAction) (y : Model × Answer) → grant action x ≡ ok y
+pub grant-shows : (x : Placed) (action : ChangeTransitionAction) (y : Model × Answer) → grant action x ≡ ok y
     → Shows (y .1)
 grant-shows x action y e =
     let s = shapeAt (x .0) (x .1) in
@@ -158,7 +158,7 @@ grant-shows x action y e =
     }
 
 -- A question answers none.
-no-shape : {i j : Model} {c : ℕ} {given : ChangeTransitionAction} {count : ℕ} (a : Answer) → grantedBy a ≡ 0
+pub no-shape : {i j : Model} {c : ℕ} {given : ChangeTransitionAction} {count : ℕ} (a : Answer) → grantedBy a ≡ 0
     → _≡_ {A = Got (Model × Answer)} (ok (i, a)) (ok (j, Given c given count)) → c ≡ 0
 no-shape a none e = ap (λ (z : Model × Answer). grantedBy (z .1)) (sym (same-given e)) ∙ none
 
@@ -212,7 +212,7 @@ module _ (m : Model) (sound : Sound m) where
 
   -- ## The other shapes
 
-  says : (c : Call) (a : Answer) → call m c .1 ≡ Yes a
+  pub says : (c : Call) (a : Answer) → call m c .1 ≡ Yes a
       → (s : Shows a) → Says m c (call m c .0) (s .place) (s .action) (s .count)
   says c a e s = ap (λ (r : Reply). (call m c .0, r)) (e ∙ ap Yes (s .its))
 
@@ -258,7 +258,7 @@ module _ (m : Model) (sound : Sound m) where
       λ r q. not-both (both-and (eq-eqb k n q) (ap (λ (x : ℕ). unique (shapeAt m x)) q ∙ r)) other,
     )
 
-    others-kept : (c : Call) → (eqb k (changedBy c) && unique (shapeAt m k)) ≡ false → KeptBy m c k
+    pub others-kept : (c : Call) → (eqb k (changedBy c) && unique (shapeAt m k)) ≡ false → KeptBy m c k
     others-kept newRoot other = held-used m sound k isHeld
     others-kept newUnique other = held-used m sound k isHeld
     others-kept (insertKey n x a) other = untouched n other
@@ -285,7 +285,7 @@ module _ (m : Model) (sound : Sound m) where
       ap keys (called m sound c .keeps .keeps k (others-kept k isHeld c other) .sameEntries) ∙ s
 
   -- A shape that is held after a call, and is not its answer, was held before.
-  was-held : (c : Call) (a : Answer) → call m c .1 ≡ Yes a → (k : ℕ) → HeldAt (call m c .0) k → k ≢ 0
+  pub was-held : (c : Call) (a : Answer) → call m c .1 ≡ Yes a → (k : ℕ) → HeldAt (call m c .0) k → k ≢ 0
       → k ≢ grantedBy a → HeldAt m k
   was-held c a e k isHeld place other none =
       let j = call m c .0 in
@@ -344,7 +344,7 @@ stand-over ws (c ∷ cs) ls e all =
     (rw (k .model, k .reply) one)
 
 -- A formatted image holds no shape.
-none-held : (l : Limits) (ws : List ℕ) → format l ws .1 ≡ Yes Done → (n : ℕ)
+pub none-held : (l : Limits) (ws : List ℕ) → format l ws .1 ≡ Yes Done → (n : ℕ)
     → shapeAt (parse (format l ws .0)) n .holds ≡ 0
 unfolding format shapeAt
 none-held l ws e n =

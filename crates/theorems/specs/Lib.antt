@@ -36,4 +36,14 @@ pub mod WordsKeep
 pub mod Demand3
 pub mod Grants
 pub mod EcmaRuns
+pub mod TrailRules
+pub mod TrailLaws
+pub mod RollbackOfTrails
+pub mod AnswersFollow
+pub mod CallersLog
+pub mod LogRight
+pub mod LinesRight
+pub mod Demand3Heard
+pub mod LogExamples
 pub mod Instances
+pub mod LogInstances

@@ -1,7 +1,7 @@
 -- What each change of a shape leads to, as document 01 says it.
 -- Assumes nothing.
 use mathlib.Core.Bool.{Bool, true, false, not}
-use mathlib.Core.List.{List, _∷_, _++_}
+use mathlib.Core.List.{List, [], _∷_, _++_}
 use Prim.Native.Nat.{ℕ, _+_}
 use lib.ListN.{length}
 use Rattle.slot.specs.If.{if_then_else_}
@@ -11,10 +11,12 @@ use Rattle.store.specs.declared.Entry.{Entry}
 use Rattle.rules.specs.declared.ChangeTransitionAction.{ChangeTransitionAction}
 use Rattle.rules.specs.declared.ChangeTransitionAction.the-variants.{Nothing}
 use Rattle.rules.specs.Shapes.{has, attributesIn, appended, configured, without, laid, unique}
-use Rattle.rules.specs.Steps.{Step, insert, rollback}
+use Rattle.rules.specs.Steps.{Step, insert, prototype, rollback}
 use Rattle.rules.specs.Calls.{actionFor}
+use Rattle.rules.specs.Trails.{trail}
 use Rattle.theorems.specs.Made.{entriesAt, prototypeAt, transitionsAt}
 use Rattle.theorems.specs.InTurn.{stepsEntries}
+use Rattle.theorems.specs.TrailRules.{trailWithout, trailChanged}
 
 pub record Outcome : Type 0 where
   pub action : ChangeTransitionAction
@@ -23,6 +25,8 @@ pub record Outcome : Type 0 where
   pub prototype : ℕ
   -- of a shared shape: the transitions that the steps lead to, before the limit is looked at
   pub transitions : ℕ
+  -- and the trail
+  pub trail : List Step
   -- of a unique: whether it acts on the same number; if not, the prototype that the old one is left with,
   -- without keys
   pub same : Bool
@@ -50,6 +54,7 @@ module _ (m : Model) (n : ℕ) where
         entries = appended (entriesAt m n) k a;
         prototype = prototypeAt m n;
         transitions = transitionsAt m n + 1;
+        trail = trail m n ++ insert k a ∷ [];
         same = true;
         left = 0;
       }
@@ -68,6 +73,7 @@ module _ (m : Model) (n : ℕ) where
             else fromBase k (changeSteps k a);
         prototype = prototypeAt m n;
         transitions = if same then transitionsAt m n + 1 else countFromBase k (changeSteps k a);
+        trail = trailChanged (trail m n) k a;
         same = same;
         left = 0;
       }
@@ -84,6 +90,7 @@ module _ (m : Model) (n : ℕ) where
             else fromBase k (removalSteps k);
         prototype = prototypeAt m n;
         transitions = countFromBase k (removalSteps k);
+        trail = trailWithout (trail m n) k;
         same = not (has k es);
         left = 0;
       }
@@ -96,6 +103,7 @@ module _ (m : Model) (n : ℕ) where
         entries = entriesAt m n;
         prototype = p;
         transitions = transitionsAt m n + 1;
+        trail = trail m n ++ prototype p ∷ [];
         same = false;
         left = prototypeAt m n;
       }

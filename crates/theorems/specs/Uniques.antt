@@ -36,9 +36,10 @@ use Rattle.theorems.specs.Made.{prototypeAt, Contents, kept-contents}
 use Rattle.theorems.specs.Retabled.{Retabled, Others, retabled-keeps, retabled-entries, table-put}
 use Rattle.theorems.specs.Retabled.{both-stands, both-put}
 
--- A unique that has given its keys to another is still there, without keys and with the prototype q.
+-- A unique that has given its keys to another is still there and unique, without keys and with the prototype q.
 pub record Emptied (m : Model) (n q : ℕ) : Type 0 where
   pub isUsed : Used m n
+  pub isUnique : unique (shapeAt m n) ≡ true
   pub contents : Contents m n [] q
 
 -- The unique at n and the one at c that a rule gives: the same number, or another and the old one emptied.
@@ -177,6 +178,7 @@ module _ (m : Model) (sound : Sound m) (n : ℕ) (isUnique : unique (shapeAt m n
       let stands = both-stands m sound n isUnique [] none (uniqueShape (s .holds) 0 p (s .table)) in
       record {
         isUsed = unique-used (shapeAt (emptied m n p) n) (retabled p .isUnique);
+        isUnique = retabled p .isUnique;
         contents = record {
           itsEntries = retabled-entries m (emptied m n p) sound n [] (retabled p);
           itsPrototype = ap (λ (x : Shape). x .prototype) stands;
@@ -207,7 +209,11 @@ module _ (m : Model) (sound : Sound m) (n : ℕ) (isUnique : unique (shapeAt m n
         };
         oldOne = (
           λ same. not-both (rw same at (next .wasFree)) (old .isUsed),
-          record { isUsed = kept-used (old .isUsed) kept; contents = kept-contents kept (old .contents) },
+          record {
+            isUsed = kept-used (old .isUsed) kept;
+            isUnique = ap unique (kept .sameCore) ∙ old .isUnique;
+            contents = kept-contents kept (old .contents);
+          },
         );
       }
 
