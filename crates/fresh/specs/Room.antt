@@ -40,7 +40,7 @@ roomAt n t =
     else if eqb t 0 then Full TablesFull
     else At (record { shape = n; table = t })
 
--- "ShapesFull: a shape is needed, no place free"; "TablesFull: a table is needed, no place free".
+-- ShapesFull: "a shape is needed, no place free"; TablesFull: "a table is needed, no place free".
 abbrev pub freeRoom : Model → FreeRoom
 freeRoom m = roomAt (lowest freeShape 1 (m .shapes)) (lowest freeTable 1 (m .tables))
 

@@ -46,7 +46,7 @@ module _ (m : Model) (n : ℕ) where
   abbrev its : Shape
   its = shapeAt m n
 
-  -- "NoShape: place 0, above S, free"
+  -- NoShape: "place 0, above S, free"
   pub no-place : n ≡ 0 → false ≡ not (unheld m n)
   unfolding shapeAt
   no-place e = rw e

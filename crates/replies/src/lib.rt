@@ -14,7 +14,7 @@ ghost use Rattle.rules.specs.Runner.{actionNumber, fourNumbers};
 ghost use Rattle.rules.specs.Replies.{shapeReply, doneReply, sweepReply, lookupReply, keysReply, numberReply};
 ghost use Rattle.replies.specs.Numbers.{numbersOf};
 
-// "refusal or 0, shape, action, .. transition count"; other calls have other numbers after the refusal.
+// "refusal or 0, shape, action .., transition count"; other calls have other numbers after the refusal.
 #[repr(C)]
 pub struct ReplyNumbers {
     pub refusal: u32,

@@ -227,7 +227,7 @@ pub fn removal_steps(image: &[u32], n: u32, key: u32, steps: &mut [u32]) -> Repl
     }
 }
 
-// "Change of width: base, prototype, the key with new attributes, then the yielded keys."
+// "Change of width: base, prototype, the key with new attributes, then the yielded keys".
 pub fn change_steps(
     image: &[u32],
     n: u32,

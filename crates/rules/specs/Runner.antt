@@ -128,7 +128,7 @@ actionNumber Nothing = 0
 actionNumber Remove = 1
 actionNumber Insert = 2
 
--- "four numbers: refusal or 0, shape, action, transition count. `S` answers 0, shapes freed, tables freed, 0;
+-- "four numbers: refusal or 0, shape, action .., transition count. `S` answers 0, shapes freed, tables freed, 0;
 -- `F` answers four zeros." No line asks a question; from C one is answered by 1, slot index and attributes, or zeros
 -- (lookup), by how many (key list), or by its number.
 abbrev pub fourNumbers : Reply → List ℕ

@@ -210,7 +210,7 @@ modelSentences m =
 unfoldable pub soundModel : Model → Bool
 soundModel m = all (modelSentences m)
 
--- What only the words can tell: the limits, "the header agrees with the slice's length", "unused entries are zero".
+-- What only the words can tell: the limits, "The header agrees with the slice's length", "unused entries are zero".
 abbrev pub wordSentences : List ℕ → List Bool
 wordSentences ws = goodLimits (limitsIn ws) ∷ goodHeader ws ∷ tidyTables ws ∷ []
 

@@ -33,7 +33,7 @@ stepKind (insert k a) = 0
 stepKind (configure k a) = 1
 stepKind (prototype p) = 2
 
--- "Edge: parent, kind (0 property, 1 prototype), key or prototype, attributes (0 for prototype), child"
+-- "Edge, 5 words: parent, kind (0 property, 1 prototype), key or prototype, attributes (0 for prototype), child"
 abbrev pub edgeKind : Step → ℕ
 edgeKind (insert k a) = 0
 edgeKind (configure k a) = 0
@@ -252,8 +252,8 @@ removeShared m n k =
     let b = rollback m n k in
     steps (b .newest ++ b .yielded) m (b .base)
 
--- "Change at equal width: one configure step. Change of width: base, prototype, the key with new attributes,
--- then the yielded keys."
+-- "Change at equal width: one configure step .. Change of width: base, prototype, the key with new attributes,
+-- then the yielded keys".
 unfoldable pub changeShared : Model → (place key attributes : ℕ) → Got Placed
 changeShared m n k a =
     let b = rollback m n k in

@@ -38,7 +38,7 @@ insertUnique m n k a = let s = shapeAt m n in do
   )
 
 -- "Removal and width change give a new shape with all slots worked out; the old one keeps its number with no keys
--- and prototype 0. Removing an absent key gives the same number."
+-- and prototype 0. .. Removing an absent key gives the same number."
 unfoldable pub removeUnique : Model → (place key : ℕ) → Got Placed
 removeUnique m n k =
     let s = shapeAt m n in

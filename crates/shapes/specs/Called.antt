@@ -72,7 +72,7 @@ module _ (ws : List ℕ) (isSound : sound ws ≡ true) where
       go (ok (m, a)) (became, its) = ap₂ pair (became .laid) its
       go (refused x) (same, its) = ap₂ pair (same ∙ ready .0 .laid) its
 
--- "Damaged: image not sound".
+-- Damaged: "image not sound".
 pub damaged : (ws : List ℕ) (c : Call) → sound ws ≡ false → Calls ws ws c (No Damaged)
 unfolding sound callOn call
 damaged ws c bad = go (soundWords ws) (soundModel (parse ws)) (λ e. words-formed ws e .laid) bad

@@ -33,7 +33,7 @@ Tells after n said = pair after (numbersOf n) ≡ inNumbers said
 abbrev pub limitsAre : (s t k e : ℕ) → Limits
 limitsAre s t k e = record { S = s; T = t; K = k; E = e }
 
--- "Damaged: image not sound"; a question, which leaves the words as they are.
+-- Damaged: "image not sound"; a question, which leaves the words as they are.
 abbrev pub tested : List ℕ → List ℕ × Reply
 tested ws = (ws, if sound ws then Yes Done else No Damaged)
 

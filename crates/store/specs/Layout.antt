@@ -57,7 +57,7 @@ formattable l ws = goodLimits l && eqb (length ws) (total l)
 
 -- ## A record's words
 
--- "Shape, 10 words: state, holds, previous, step kind, transition count, property count, prototype, table,
+-- "Shape, 10 words: state .., holds, previous .., step kind .., transition count, property count, prototype, table,
 -- property counter, prototype counter."
 abbrev pub shapeWords : Shape → List ℕ
 shapeWords s =
@@ -94,7 +94,7 @@ entryWords e = e .key ∷ e .attributes ∷ e .slot .0 ∷ []
 abbrev pub readEntry : List ℕ → Entry
 readEntry r = record { key = getD r 0 0; attributes = getD r 1 0; slot = record { 0 = getD r 2 0 } }
 
--- "Edge, 5 words: parent, kind, key or prototype, attributes, child."
+-- "Edge, 5 words: parent, kind .., key or prototype, attributes .., child".
 abbrev pub edgeWords : Edge → List ℕ
 edgeWords e = e .parent ∷ e .kind ∷ e .label ∷ e .attributes ∷ e .child ∷ []
 
@@ -174,7 +174,7 @@ parse ws =
 
 -- ## Laid out
 
--- "Unused entries are zero", and no table has more than K entries.
+-- "unused entries are zero", and no table has more than K entries.
 abbrev pub tidyTable : (K : ℕ) → List ℕ → Bool
 tidyTable K r =
     let count = getD r 0 0 in
