@@ -1,8 +1,9 @@
 //! Reads one input line.
 
+use crate::image::Image;
+
 const LONGEST: usize = 64;
 
-#[derive(Debug, Clone, Copy)]
 pub enum Line {
     Root,
     Unique,
@@ -11,6 +12,7 @@ pub enum Line {
     Sweep,
     ShowLive,
     NewRun,
+    Load(Image),
 }
 
 /// A transition from the shape of a handle.
@@ -31,6 +33,9 @@ pub enum CallKind {
 /// The line of these bytes, which end with a line feed if the line was ended.
 pub fn parse(bytes: &[u8]) -> Option<Line> {
     let bytes = bytes.strip_suffix(b"\n")?;
+    if let Some(words) = bytes.strip_prefix(b"L ") {
+        return Image::parse(words).map(Line::Load);
+    }
     if bytes.len() > LONGEST {
         return None;
     }
@@ -54,7 +59,7 @@ pub fn parse(bytes: &[u8]) -> Option<Line> {
 }
 
 /// Not `str::parse`, which would take a plus sign too.
-fn number(word: &[u8]) -> Option<u32> {
+pub fn number(word: &[u8]) -> Option<u32> {
     if word.is_empty() {
         return None;
     }

@@ -80,7 +80,8 @@ class CCalls:
     def __init__(self):
         run_tool(["rt", "staticlib", "shapes_c"])
         archive = ROOT / "target" / "staticlib" / "libshapes_c.a"
-        self.driver = build_driver("c_calls", "-I", ROOT / "include", archive)
+        inside = ORACLE_FOLDER / "drivers" / "inside.c"
+        self.driver = build_driver("c_calls", inside, "-I", ROOT / "include", archive)
 
     def answers(self, text, part, said):
         with tempfile.NamedTemporaryFile("w", prefix="limits-") as limits:

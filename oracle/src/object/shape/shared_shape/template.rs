@@ -5,6 +5,9 @@
 //! the shapes and the shared shapes. Only the table of a unique shape is out of
 //! its sight; the stand-in `derive(Trace)` leads there.
 
+pub(crate) mod inside;
+pub(crate) mod load;
+
 use std::{any::Any, cell::RefCell, collections::HashSet, ptr, rc::Rc};
 
 use boa_gc::{Trace, kept};
