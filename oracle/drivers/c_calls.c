@@ -135,11 +135,15 @@ static void give_handles(void (*give)(uint32_t place, bool pinned))
     }
 }
 
-/* The line has the number of words, and those that are not 0, each after its place and a colon. */
+/* The line has the number of words, and those that are not 0, each after its place and a colon. Without words the
+   formatted image stays. */
 static void read_image(const char *text)
 {
     char *at;
-    words = strtoul(text + 1, &at, 10);
+    size_t count = strtoul(text + 1, &at, 10);
+    if (count == 0)
+        return;
+    words = count;
     image = room_for(image, words, sizeof *image);
     memset(image, 0, words * sizeof *image);
     while (*at == ' ') {

@@ -41,16 +41,18 @@ pub struct EdgeRecord {
 }
 
 impl Image {
-    /// How many words there are, and those that are not 0, each after its place and a colon.
+    /// How many words there are, and those that are not 0, each after its place and a colon. No words are an image in
+    /// which there is nothing.
     pub fn parse(text: &[u8]) -> Option<Self> {
         let mut parts = text.split(|byte| *byte == b' ');
-        let mut words = vec![0; number(parts.next()?)? as usize];
+        let count = number(parts.next()?)? as usize;
+        let mut words = vec![0; count.max(HEADER_WORDS)];
         for part in parts {
             let colon = part.iter().position(|byte| *byte == b':')?;
             let place = number(&part[..colon])? as usize;
             *words.get_mut(place)? = number(&part[colon + 1..])?;
         }
-        (words.len() > HEADER_WORDS).then_some(Self { words })
+        Some(Self { words })
     }
 
     /// By rising place.
