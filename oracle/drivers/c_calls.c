@@ -184,6 +184,10 @@ static struct shapes_reply call(const struct line *line)
         return shapes_set_prototype(image, words, n[0], n[1]);
     case 'F':
         return shapes_release(image, words, n[0]);
+    case 'H':
+        return shapes_hold(image, words, n[0]);
+    case 'V':
+        return shapes_previous(image, words, n[0]);
     default:
         return shapes_sweep(image, words);
     }

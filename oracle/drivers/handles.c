@@ -84,8 +84,8 @@ static int64_t read_number(const char **text)
 /* Whether a text with its line feed has document 01's form. */
 static bool parse(const char *text, size_t length, struct line *line)
 {
-    static const char letters[] = "RUICDPFS?N";
-    static const int numbers[] = {0, 0, 3, 3, 2, 2, 1, 0, 0, 0};
+    static const char letters[] = "RUICDPFHVS?N";
+    static const int numbers[] = {0, 0, 3, 3, 2, 2, 1, 1, 1, 0, 0, 0};
     const char *letter = memchr(letters, text[0], sizeof letters - 1);
     if (letter == NULL || text[length - 1] != '\n' || length - 1 > LONGEST_LINE)
         return false;
@@ -134,7 +134,14 @@ static void print_freed(const char *word, struct answer answer)
     printf("%s %u %u\n", word, answer.first, answer.second);
 }
 
-/* A line of the step runner. */
+static void print_none(struct answer answer)
+{
+    if (answer.second != 0 || answer.third != 0)
+        print_wrong(answer);
+    printf("none\n");
+}
+
+/* A line of the step runner, or one that holds a shape or its previous. */
 static void answer_line(struct line line)
 {
     struct answer answer;
@@ -147,6 +154,8 @@ static void answer_line(struct line line)
         answer_release(handle, answer);
     else if (line.letter == 'S')
         print_freed("swept", answer);
+    else if (line.letter == 'V' && answer.first == 0)
+        print_none(answer);
     else {
         uint32_t same = lowest_handle(answer.first, given);
         port_show(give(answer.first, false), answer.first, same, &answer);

@@ -18,7 +18,7 @@ use crate::{
             shared_shape::template::{
                 entries,
                 inside::{self, slot_text},
-                kept_tables, load, transition_count,
+                kept_tables, load, previous, transition_count,
             },
         },
     },
@@ -81,6 +81,10 @@ impl<W: Write> Run<W> {
                 Some(_) => writeln!(self.out, "released {handle}")?,
                 None => self.refuse(Refusal::NoShape)?,
             },
+            Some(Line::Hold { handle }) => {
+                self.answer_question(handle, |shape| Some(shape.clone()))?
+            }
+            Some(Line::Previous { handle }) => self.answer_question(handle, previous)?,
             Some(Line::Sweep) => self.sweep()?,
             Some(Line::ShowLive) => self.show_live()?,
             Some(Line::NewRun) => self.new_run()?,
@@ -113,6 +117,19 @@ impl<W: Write> Run<W> {
             }
         }
         Ok(Next::GoOn)
+    }
+
+    /// Grants a shape that is there already, if there is one.
+    fn answer_question(
+        &mut self,
+        handle: u32,
+        wanted: impl Fn(&Shape) -> Option<Shape>,
+    ) -> Result<()> {
+        match self.live.get(&handle).map(wanted) {
+            Some(Some(shape)) => self.grant(shape, 0),
+            Some(None) => writeln!(self.out, "none"),
+            None => self.refuse(Refusal::NoShape),
+        }
     }
 
     fn note_key(&mut self, kind: CallKind) {

@@ -7,8 +7,7 @@ import itertools
 import random
 from dataclasses import dataclass, field
 
-from profiles import (ACCESSOR, ATTRIBUTES, DATA, INDEX, LIMIT, SYMBOL, Draft, Sketch, change_some, insert_some,
-                      is_wide, one_of)
+from profiles import ATTRIBUTES, INDEX, LIMIT, SYMBOL, Draft, Sketch, is_wide, one_of
 from runs import Run
 
 # The largest and the smallest number of a kind are among them; 0 is a string.
@@ -218,7 +217,7 @@ def draw_image(random_source, long_trail):
     if long_trail:
         image.trail(random_source.randint(LIMIT - 4, LIMIT - 1))
     image.grow(random_source.randint(0, 14))
-    image.dead_edges(random_source.choice([0, 1, 3, 6, 12]))
+    image.dead_edges(random_source.choice([0, 1, 3, 6, 12, 40]))
     image.choose_tables()
     image.lengthen_tables()
     image.uniques(random_source.choice([0, 0, 1, 2]))
@@ -254,35 +253,71 @@ def is_out_of_reach(image):
 
 # ## Runs
 
-def handles(image):
-    """A sketch for each handle, with the edges of its shape."""
-    for shape in sorted(image.shapes, key=lambda shape: shape.place):
-        sketch = Sketch(shape.state == UNIQUE, {key: is_wide(attributes) for key, attributes in shape.entries},
-                        shape.transitions)
-        for _ in range(min(shape.holds, MOST_HANDLES)):
-            yield sketch, list(shape.edges)
+def sketch_of(shape):
+    keys = {key: is_wide(attributes) for key, attributes in shape.entries}
+    return Sketch(shape.state == UNIQUE, keys, shape.transitions)
 
 
-def along_an_edge(draft, edges):
-    """The step of an edge that the image has, dead or live."""
-    handle = draft.random.choice([handle for handle in draft.live() if edges.get(handle)] or [0])
-    if handle == 0:
-        return
-    prototype, key, attributes = draft.random.choice(edges[handle])
-    if prototype:
-        draft.prototype(handle, key)
-    elif key in draft.held(handle):
-        draft.change(handle, key, attributes)
-    else:
-        draft.insert(handle, key, attributes)
+class ImageDraft(Draft):
+    """A run that begins at an image. It follows which handles have a shape of the image."""
+
+    def __init__(self, random_source, image, first_line):
+        super().__init__(random_source)
+        self.add(first_line)
+        self.loaded = {}
+        self.sketches = {shape: sketch_of(shape) for shape in image.shapes}
+        for shape in sorted(image.shapes, key=lambda shape: shape.place):
+            for _ in range(min(shape.holds, MOST_HANDLES)):
+                self.give_loaded(shape)
+
+    def give_loaded(self, shape):
+        self.loaded[self.give(self.sketches[shape])] = shape
+
+    def some_loaded(self, wanted):
+        """A live handle of such a shape of the image; 0 if there is none."""
+        return self.random.choice([handle for handle in self.live()
+                                   if handle in self.loaded and wanted(self.loaded[handle])] or [0])
+
+    def along_an_edge(self):
+        """The step of an edge that the image has, dead or live."""
+        handle = self.some_loaded(lambda shape: shape.edges)
+        if handle == 0:
+            return
+        edge = self.random.choice(list(self.loaded[handle].edges))
+        _, key, attributes = edge
+        if is_prototype(edge):
+            self.prototype(handle, key)
+        elif key in self.held(handle):
+            self.change(handle, key, attributes)
+        else:
+            self.insert(handle, key, attributes)
+
+    def hold(self):
+        handle = self.handle()
+        if handle:
+            self.add(f"H {handle}")
+            self.give(self.shapes[handle])
+
+    def previous(self):
+        """A root and a unique shape have none, so that no handle is given."""
+        handle = self.some_loaded(lambda shape: True)
+        if handle:
+            self.add(f"V {handle}")
+            if self.loaded[handle].previous:
+                self.give_loaded(self.loaded[handle].previous)
 
 
-def calls(draft, edges, count):
+def calls(draft, count):
     weights = {"insert": 24, "change": 16, "remove": 16, "prototype": 9, "release": 8, "sweep": 7, "root": 1, "unique": 1,
                "refused": 3}
     for _ in range(count):
-        if draft.random.random() < 0.25:
-            along_an_edge(draft, edges)
+        draw = draft.random.random()
+        if draw < 0.25:
+            draft.along_an_edge()
+        elif draw < 0.28:
+            draft.hold()
+        elif draw < 0.33:
+            draft.previous()
         else:
             attributes = ATTRIBUTES if draft.random.random() < 0.9 else range(32)
             one_of(draft, weights, KEYS, attributes, PROTOTYPES)
@@ -293,12 +328,8 @@ def image_run(seed, number):
     source = random.Random(f"images {seed} {number}")
     image = draw_image(source, number % LONG_TRAILS == LONG_TRAILS - 1)
     count = source.randint(4, 12)
-    words, total = image.words(MADE_BY_A_LINE * count)
-    draft = Draft(source)
-    given = list(handles(image))
-    draft.shapes += [sketch for sketch, _ in given]
-    draft.add(load_line(words, total))
-    calls(draft, {handle: edges for handle, (_, edges) in enumerate(given, 1)}, count)
+    draft = ImageDraft(source, image, load_line(*image.words(MADE_BY_A_LINE * count)))
+    calls(draft, count)
     return Run(f"images-{seed}-{number}", draft.lines), image
 
 

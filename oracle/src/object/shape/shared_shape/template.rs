@@ -27,6 +27,14 @@ pub(crate) fn transition_count(shape: &Shape) -> u16 {
     }
 }
 
+/// None for a root or a unique shape.
+pub(crate) fn previous(shape: &Shape) -> Option<Shape> {
+    match &shape.inner {
+        Inner::Shared(shared) => shared.previous().cloned().map(Into::into),
+        Inner::Unique(_) => None,
+    }
+}
+
 /// The shape's own entries in table order. They are taken from the list of the
 /// table and not from its map, so that lookups, which use the map, can be
 /// checked against them.
