@@ -30,10 +30,11 @@ class Table:
 
 @dataclass(eq=False)
 class Shape:
-    """A shape of the image. Its edges are those that begin at it: kind, key or prototype, attributes -> child or none."""
+    """A shape of the image. Its edges are those that begin at it, each by kind, key or prototype, and attributes, with
+    its child if it is live."""
 
     state: int
-    entries: list
+    entries: list  # pairs of key and attributes
     prototype: int = 0
     previous: object = None
     kind: int = INSERT
@@ -308,8 +309,8 @@ class ImageDraft(Draft):
 
 
 def calls(draft, count):
-    weights = {"insert": 24, "change": 16, "remove": 16, "prototype": 9, "release": 8, "sweep": 7, "root": 1, "unique": 1,
-               "refused": 3}
+    weights = {"insert": 24, "change": 16, "remove": 16, "prototype": 9, "release": 8, "sweep": 7, "root": 1,
+               "unique": 1, "refused": 3}
     for _ in range(count):
         draw = draft.random.random()
         if draw < 0.25:
