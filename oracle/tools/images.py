@@ -20,7 +20,7 @@ MOST_HANDLES = 2
 MOST_HELD = 30  # and never the first shapes of a long trail
 # A line makes at most a prototype's child, a child for each key, and a unique shape: each with a table and an edge.
 MADE_BY_A_LINE = len(KEYS) + 2
-LONG_TRAILS = 50  # of so many images one has a trail up to the limit
+LONG_TRAILS = 400  # of so many images one has a trail up to the limit
 
 
 @dataclass(eq=False)

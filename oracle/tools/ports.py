@@ -149,8 +149,8 @@ def first_difference(part, text, said, answered):
     lines = text.splitlines()
     pairs = itertools.zip_longest(by_line(said), by_line(answered), fillvalue=[])
     number, wanted, got = next((number, *pair) for number, pair in enumerate(pairs) if pair[0] != pair[1])
-    begun = max(at for at in range(min(number, len(lines) - 1) + 1) if lines[at] == "N" or at == 0)
-    run = part[min(max(1, lines[: number + 1].count("N")), len(part)) - 1]
+    begun = max((at for at, line in enumerate(lines[:number]) if line == "N"), default=0)
+    run = part[min(max(1, lines[:number].count("N")), len(part)) - 1]
     wanted, got = next(pair for pair in itertools.zip_longest(wanted, got) if pair[0] != pair[1])
     read = "".join(f"    {line}\n" for line in lines[begun + 1: number + 1])
     return f"{run.name}: answered `{got}`, the oracle says `{wanted}`, after\n{read}"
