@@ -228,28 +228,45 @@ def draw_image(random_source, long_trail):
 
 # ## Which of them no run leads to
 
-def begins_at(table, shape):
-    return shape.table is table and (shape.previous is None or shape.previous.table is not table)
+def counter_without_edge(image):
+    """The edge that raised a counter goes only with a prune, which puts the counter at 0."""
+    return any(counter and not any(edge[0] == kind for edge in shape.edges)
+               for shape in image.shared() for kind, counter in enumerate(shape.counters))
 
 
-def is_out_of_reach(image):
-    """Whether it is plain that no run from a formatted image leads here: a counter above 0 without an edge of its kind
-    (the edge that raised it goes only with a prune, which puts it at 0); a prototype step to another table; a configure
-    step to the same; an insert step to another table where the parent's ends with the parent's keys (tables of shared
-    shapes never become shorter); a table that shapes share which did not get it from one another."""
-    for shape in image.shared():
-        for kind, counter in enumerate(shape.counters):
-            if counter and not any(edge[0] == kind for edge in shape.edges):
-                return True
-        if shape.previous:
-            before = shape.previous
-            same = shape.table is before.table
-            if shape.kind == PROTOTYPE and not same or shape.kind == CONFIGURE and same:
-                return True
-            if shape.kind == INSERT and not same and len(before.table.entries) == len(before.entries):
-                return True
-    shared = image.shared()
-    return any(sum(begins_at(table, shape) for shape in shared) > 1 for table in image.tables)
+def steps(image, kind):
+    """The shapes that such a step made, and whether each has its previous's table."""
+    return [(shape, shape.table is shape.previous.table) for shape in image.shared()
+            if shape.previous and shape.kind == kind]
+
+
+def prototype_to_another_table(image):
+    return any(not same for _, same in steps(image, PROTOTYPE))
+
+
+def configure_in_the_same_table(image):
+    return any(same for _, same in steps(image, CONFIGURE))
+
+
+def insert_to_another_table_for_no_reason(image):
+    """The previous's table ends with its keys, and a table of shared shapes never becomes shorter."""
+    return any(not same and len(shape.previous.table.entries) == len(shape.previous.entries)
+               for shape, same in steps(image, INSERT))
+
+
+def table_with_two_beginnings(image):
+    """A shape has the table that was made for it, or its previous's."""
+    begun = [shape.table for shape in image.shared() if not shape.previous or shape.previous.table is not shape.table]
+    return len(begun) > len(set(begun))
+
+
+OUT_OF_REACH = (counter_without_edge, prototype_to_another_table, configure_in_the_same_table,
+                insert_to_another_table_for_no_reason, table_with_two_beginnings)
+
+
+def out_of_reach(image):
+    """Why no run from a formatted image leads to this one, as far as that is plain."""
+    return [reason.__name__ for reason in OUT_OF_REACH if reason(image)]
 
 
 # ## Runs
