@@ -1,4 +1,4 @@
-"""Every sound image of a small kind, and every call on it.
+"""Every sound image of a small kind, and ten calls from each of its held shapes.
 
 An image has one to three shared shapes, of one or two roots, by steps over one key with attributes 7, 5 and 14 and one
 prototype; each way to share tables; an entry of a second key behind every table's own, or none; at most one dead edge;
