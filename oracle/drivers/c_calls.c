@@ -1,4 +1,5 @@
 /* The C calls as the port. The argument is a file with the limits S T K E of each run's image, a line for each. */
+#include "inside.h"
 #include "port.h"
 #include "shapes.h"
 
@@ -9,11 +10,17 @@
 
 /* What the words of a lent list are beforehand, to see that the rest of it stays: a bad key. */
 #define UNWRITTEN UINT32_MAX
+/* A held shape of a loaded image has as many handles as holds, and at most this many. */
+#define MOST_HANDLES 2
 
 static FILE *limits;
 static uint32_t *image, *formatted, *list;
 static size_t words;
 static uint32_t longest_list;
+/* Since an image was loaded, what is inside the shapes is shown too. */
+static bool loaded;
+/* A loaded shape has more holds than handles, so that some of the image stays. */
+static bool some_pinned;
 
 /* Every good key of the run so far: each is looked up in each shape that is shown. */
 static uint32_t *keys;
@@ -33,20 +40,26 @@ static void *room_for(void *old, size_t count, size_t size)
 
 /* ## The image */
 
-static void format_image(uint32_t shapes, uint32_t tables, uint32_t keys_per_table, uint32_t edges)
+/* Formats the words that an image has in which nothing is left. */
+static void format_empty(uint32_t shapes, uint32_t tables, uint32_t keys_per_table, uint32_t edges)
 {
-    words = SHAPES_WORDS(shapes, tables, keys_per_table, edges);
-    image = room_for(image, words, sizeof *image);
     formatted = room_for(formatted, words, sizeof *formatted);
     /* Formatting has to write each word. */
-    memset(image, 0xff, words * sizeof *image);
-    struct shapes_reply reply = shapes_format(image, words, shapes, tables, keys_per_table, edges);
+    memset(formatted, 0xff, words * sizeof *formatted);
+    struct shapes_reply reply = shapes_format(formatted, words, shapes, tables, keys_per_table, edges);
     if (reply.refusal != 0)
         printf("error: formatting for %u %u %u %u is refused with %u\n", shapes, tables, keys_per_table, edges,
                reply.refusal);
-    memcpy(formatted, image, words * sizeof *image);
     longest_list = keys_per_table;
     list = room_for(list, longest_list, sizeof *list);
+}
+
+static void format_image(uint32_t shapes, uint32_t tables, uint32_t keys_per_table, uint32_t edges)
+{
+    words = SHAPES_WORDS(shapes, tables, keys_per_table, edges);
+    format_empty(shapes, tables, keys_per_table, edges);
+    image = room_for(image, words, sizeof *image);
+    memcpy(image, formatted, words * sizeof *image);
 }
 
 void port_start(char **arguments)
@@ -62,9 +75,10 @@ void port_start(char **arguments)
 void port_new_run(void)
 {
     uint32_t shapes, tables, keys_per_table, edges;
-    if (memcmp(image, formatted, words * sizeof *image) != 0)
+    if (!some_pinned && memcmp(image, formatted, words * sizeof *image) != 0)
         printf("error: an image of which all is released and swept is not as formatted\n");
     key_count = 0;
+    loaded = some_pinned = false;
     if (fscanf(limits, "%" SCNu32 " %" SCNu32 " %" SCNu32 " %" SCNu32, &shapes, &tables, &keys_per_table, &edges) == 4)
         format_image(shapes, tables, keys_per_table, edges);
 }
@@ -94,6 +108,64 @@ static void note_key(uint32_t key)
     keys[key_count++] = key;
 }
 
+/* ## A loaded image */
+
+static void note_keys_of_image(void)
+{
+    for (uint32_t place = 1; place <= image[HEADER_SHAPES]; place++)
+        if (shape_words(image, place)[SHAPE_STATE] != 0) {
+            uint32_t table = shape_words(image, place)[SHAPE_TABLE];
+            for (uint32_t at = 0; at < table_length(image, table); at++)
+                note_key(table_entries(image, table)[3 * at]);
+        }
+    for (uint32_t number = 0; number < image[HEADER_EDGES]; number++) {
+        const uint32_t *edge = edge_words(image, number);
+        if (edge[EDGE_PARENT] != 0 && edge[EDGE_KIND] == 0)
+            note_key(edge[EDGE_KEY]);
+    }
+}
+
+static void give_handles(void (*give)(uint32_t place, bool pinned))
+{
+    for (uint32_t place = 1; place <= image[HEADER_SHAPES]; place++) {
+        uint32_t holds = shape_words(image, place)[SHAPE_HOLDS];
+        some_pinned |= holds > MOST_HANDLES;
+        for (uint32_t handle = 0; handle < holds && handle < MOST_HANDLES; handle++)
+            give(place, holds > MOST_HANDLES);
+    }
+}
+
+/* The line has the number of words, and those that are not 0, each after its place and a colon. Without words the
+   formatted image stays. */
+static void read_image(const char *text)
+{
+    char *at;
+    size_t count = strtoul(text + 1, &at, 10);
+    if (count == 0)
+        return;
+    words = count;
+    image = room_for(image, words, sizeof *image);
+    memset(image, 0, words * sizeof *image);
+    while (*at == ' ') {
+        size_t place = strtoul(at, &at, 10);
+        uint32_t word = (uint32_t)strtoul(at + 1, &at, 10);
+        if (place < words)
+            image[place] = word;
+    }
+}
+
+void port_load(const char *text, void (*give)(uint32_t place, bool pinned))
+{
+    read_image(text);
+    format_empty(image[HEADER_SHAPES], image[HEADER_TABLES], image[HEADER_KEYS], image[HEADER_EDGES]);
+    struct shapes_reply reply = shapes_is_sound(image, words);
+    if (reply.refusal != 0)
+        printf("error: the loaded image is refused with %u\n", reply.refusal);
+    loaded = true;
+    note_keys_of_image();
+    give_handles(give);
+}
+
 static struct shapes_reply call(const struct line *line)
 {
     const uint32_t *n = line->numbers;
@@ -112,6 +184,10 @@ static struct shapes_reply call(const struct line *line)
         return shapes_set_prototype(image, words, n[0], n[1]);
     case 'F':
         return shapes_release(image, words, n[0]);
+    case 'H':
+        return shapes_hold(image, words, n[0]);
+    case 'V':
+        return shapes_previous(image, words, n[0]);
     default:
         return shapes_sweep(image, words);
     }
@@ -204,4 +280,6 @@ void port_show(uint32_t handle, uint32_t place, uint32_t same, const struct answ
            answer == NULL ? 0 : answer->second, prototype, same);
     print_entries(entries, found);
     print_keys(place);
+    if (loaded)
+        print_trail(image, place);
 }

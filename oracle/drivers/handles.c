@@ -2,7 +2,6 @@
    byte by byte. A line `error: ..` says what no answer of the oracle can. See README.md. */
 #include "port.h"
 
-#include <stdbool.h>
 #include <stdio.h>
 #include <stdlib.h>
 #include <string.h>
@@ -15,7 +14,7 @@
 /* Handle n is at n - 1. */
 static struct handle {
     uint32_t place;
-    bool live;
+    bool live, pinned;
 } *handles;
 static uint32_t given, room;
 
@@ -30,22 +29,31 @@ static uint32_t lowest_handle(uint32_t place, uint32_t first_ones)
     return 0;
 }
 
+/* Whether a place of a loaded image has holds that no handle stands for. */
+static bool is_pinned(uint32_t place)
+{
+    for (uint32_t at = 0; at < given; at++)
+        if (handles[at].pinned && handles[at].place == place)
+            return true;
+    return false;
+}
+
 static bool is_live(uint32_t handle)
 {
     return handle != 0 && handle <= given && handles[handle - 1].live;
 }
 
-/* The shape number for a handle. A released one keeps its place where no live one has it too: such a place is free or
+/* The shape number for a handle. A released one keeps its place where nothing else holds it: such a place is free or
    without holds, so that it is refused as well. One that was never given must not name a place. */
 static uint32_t shape_number(uint32_t handle)
 {
     if (handle == 0 || handle > given)
         return handle > HIGHEST_PLACE ? handle : 0;
     uint32_t place = handles[handle - 1].place;
-    return is_live(handle) || lowest_handle(place, given) == 0 ? place : 0;
+    return is_live(handle) || (lowest_handle(place, given) == 0 && !is_pinned(place)) ? place : 0;
 }
 
-static uint32_t give(uint32_t place)
+static uint32_t give(uint32_t place, bool pinned)
 {
     if (given == room) {
         room = room == 0 ? 1024 : 2 * room;
@@ -53,8 +61,13 @@ static uint32_t give(uint32_t place)
         if (handles == NULL)
             exit(2);
     }
-    handles[given] = (struct handle){.place = place, .live = true};
+    handles[given] = (struct handle){.place = place, .live = true, .pinned = pinned};
     return ++given;
+}
+
+static void give_loaded(uint32_t place, bool pinned)
+{
+    give(place, pinned);
 }
 
 /* ## Lines */
@@ -71,8 +84,8 @@ static int64_t read_number(const char **text)
 /* Whether a text with its line feed has document 01's form. */
 static bool parse(const char *text, size_t length, struct line *line)
 {
-    static const char letters[] = "RUICDPFS?N";
-    static const int numbers[] = {0, 0, 3, 3, 2, 2, 1, 0, 0, 0};
+    static const char letters[] = "RUICDPFHVS?N";
+    static const int numbers[] = {0, 0, 3, 3, 2, 2, 1, 1, 1, 0, 0, 0};
     const char *letter = memchr(letters, text[0], sizeof letters - 1);
     if (letter == NULL || text[length - 1] != '\n' || length - 1 > LONGEST_LINE)
         return false;
@@ -121,7 +134,14 @@ static void print_freed(const char *word, struct answer answer)
     printf("%s %u %u\n", word, answer.first, answer.second);
 }
 
-/* A line of the step runner. */
+static void print_none(struct answer answer)
+{
+    if (answer.second != 0 || answer.third != 0)
+        print_wrong(answer);
+    printf("none\n");
+}
+
+/* A line of the step runner, or one that holds a shape or its previous. */
 static void answer_line(struct line line)
 {
     struct answer answer;
@@ -134,9 +154,11 @@ static void answer_line(struct line line)
         answer_release(handle, answer);
     else if (line.letter == 'S')
         print_freed("swept", answer);
+    else if (line.letter == 'V' && answer.first == 0)
+        print_none(answer);
     else {
         uint32_t same = lowest_handle(answer.first, given);
-        port_show(give(answer.first), answer.first, same, &answer);
+        port_show(give(answer.first, false), answer.first, same, &answer);
     }
 }
 
@@ -190,7 +212,10 @@ int main(int count, char **arguments)
     ssize_t length;
     while ((length = getline(&text, &size, stdin)) > 0) {
         struct line line;
-        if (!parse(text, (size_t)length, &line))
+        if (strncmp(text, "L ", 2) == 0) {
+            port_load(text, give_loaded);
+            show_live();
+        } else if (!parse(text, (size_t)length, &line))
             print_refusal(port_ask_bad(text, (size_t)length));
         else if (line.letter == '?')
             show_live();

@@ -3,6 +3,7 @@
 #ifndef PORT_H
 #define PORT_H
 
+#include <stdbool.h>
 #include <stddef.h>
 #include <stdint.h>
 
@@ -29,6 +30,10 @@ void port_ask(const struct line *lines, size_t count, struct answer *answers);
 
 /* Asks for a line of any other form, as it is; its line feed may be missing. */
 struct answer port_ask_bad(const char *text, size_t length);
+
+/* Takes an image from a line `L`, and gives each handle that it has: the shape number, and whether the shape stays held
+   when all its handles are released. A port that has no images says so. */
+void port_load(const char *text, void (*give)(uint32_t place, bool pinned));
 
 /* Prints what the port can say of a shape, as the oracle says it. The answer is the one that gave the handle; none if
    the shape is only shown. */

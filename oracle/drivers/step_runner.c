@@ -129,6 +129,13 @@ struct answer port_ask_bad(const char *text, size_t length)
     return read_answer();
 }
 
+void port_load(const char *text, void (*give)(uint32_t place, bool pinned))
+{
+    (void)text;
+    (void)give;
+    give_up("a step runner has an image of its own");
+}
+
 /* The oracle says as much with --brief. */
 void port_show(uint32_t handle, uint32_t place, uint32_t same, const struct answer *answer)
 {

@@ -1,16 +1,20 @@
 //! Reads one input line.
 
+use crate::image::Image;
+
 const LONGEST: usize = 64;
 
-#[derive(Debug, Clone, Copy)]
 pub enum Line {
     Root,
     Unique,
     Call(Call),
     Release { handle: u32 },
+    Hold { handle: u32 },
+    Previous { handle: u32 },
     Sweep,
     ShowLive,
     NewRun,
+    Load(Image),
 }
 
 /// A transition from the shape of a handle.
@@ -31,6 +35,9 @@ pub enum CallKind {
 /// The line of these bytes, which end with a line feed if the line was ended.
 pub fn parse(bytes: &[u8]) -> Option<Line> {
     let bytes = bytes.strip_suffix(b"\n")?;
+    if let Some(words) = bytes.strip_prefix(b"L ") {
+        return Image::parse(words).map(Line::Load);
+    }
     if bytes.len() > LONGEST {
         return None;
     }
@@ -46,6 +53,8 @@ pub fn parse(bytes: &[u8]) -> Option<Line> {
         (b"D", &[handle, key]) => call(handle, CallKind::Remove { key }),
         (b"P", &[handle, prototype]) => call(handle, CallKind::Prototype { prototype }),
         (b"F", &[handle]) => Some(Line::Release { handle }),
+        (b"H", &[handle]) => Some(Line::Hold { handle }),
+        (b"V", &[handle]) => Some(Line::Previous { handle }),
         (b"S", []) => Some(Line::Sweep),
         (b"?", []) => Some(Line::ShowLive),
         (b"N", []) => Some(Line::NewRun),
@@ -54,7 +63,7 @@ pub fn parse(bytes: &[u8]) -> Option<Line> {
 }
 
 /// Not `str::parse`, which would take a plus sign too.
-fn number(word: &[u8]) -> Option<u32> {
+pub fn number(word: &[u8]) -> Option<u32> {
     if word.is_empty() {
         return None;
     }

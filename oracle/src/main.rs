@@ -1,6 +1,7 @@
 //! Drives boa_engine's shapes by lines from standard input. See README.md.
 
 mod calls;
+mod image;
 mod line;
 mod object;
 mod property;

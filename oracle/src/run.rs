@@ -9,13 +9,17 @@ use boa_gc::kept;
 
 use crate::{
     calls::{self, Answer},
+    image::Image,
     line::{self, Call, CallKind, Line},
     object::{
         prototype_number,
         shape::{
             Shape, SharedShape,
-            shared_shape::template::{entries, kept_tables, transition_count},
-            slot::Slot,
+            shared_shape::template::{
+                entries,
+                inside::{self, slot_text},
+                kept_tables, load, previous, transition_count,
+            },
         },
     },
     property::PropertyKey,
@@ -36,8 +40,15 @@ pub struct Run<W> {
     last_handle: u32,
     /// Every good key of the run so far, asked for in each shape.
     keys: BTreeSet<u32>,
+    /// Shapes of a loaded image with more holds than handles.
+    pinned: Vec<Shape>,
+    /// Since an image was loaded: what is inside the shapes is shown too.
+    loaded: bool,
     pub lookups_agree: bool,
 }
+
+/// A held shape of a loaded image has as many handles as holds, and at most this many.
+const MOST_HANDLES: u32 = 2;
 
 /// Whether the run goes on after a line.
 #[derive(PartialEq, Eq)]
@@ -54,6 +65,8 @@ impl<W: Write> Run<W> {
             live: BTreeMap::new(),
             last_handle: 0,
             keys: BTreeSet::new(),
+            pinned: Vec::new(),
+            loaded: false,
             lookups_agree: true,
         }
     }
@@ -68,9 +81,14 @@ impl<W: Write> Run<W> {
                 Some(_) => writeln!(self.out, "released {handle}")?,
                 None => self.refuse(Refusal::NoShape)?,
             },
+            Some(Line::Hold { handle }) => {
+                self.answer_question(handle, |shape| Some(shape.clone()))?
+            }
+            Some(Line::Previous { handle }) => self.answer_question(handle, previous)?,
             Some(Line::Sweep) => self.sweep()?,
             Some(Line::ShowLive) => self.show_live()?,
             Some(Line::NewRun) => self.new_run()?,
+            Some(Line::Load(image)) => self.load(&image)?,
         }
         Ok(Next::GoOn)
     }
@@ -101,6 +119,19 @@ impl<W: Write> Run<W> {
         Ok(Next::GoOn)
     }
 
+    /// Grants a shape that is there already, if there is one.
+    fn answer_question(
+        &mut self,
+        handle: u32,
+        wanted: impl Fn(&Shape) -> Option<Shape>,
+    ) -> Result<()> {
+        match self.live.get(&handle).map(wanted) {
+            Some(Some(shape)) => self.grant(shape, 0),
+            Some(None) => writeln!(self.out, "none"),
+            None => self.refuse(Refusal::NoShape),
+        }
+    }
+
     fn note_key(&mut self, kind: CallKind) {
         if let CallKind::Insert { key, .. }
         | CallKind::Change { key, .. }
@@ -112,10 +143,29 @@ impl<W: Write> Run<W> {
     }
 
     fn grant(&mut self, shape: Shape, action: u8) -> Result<()> {
-        self.last_handle += 1;
-        let handle = self.last_handle;
-        self.live.insert(handle, shape.clone());
+        let handle = self.give(shape.clone());
         self.show(handle, &shape, action)
+    }
+
+    fn give(&mut self, shape: Shape) -> u32 {
+        self.last_handle += 1;
+        self.live.insert(self.last_handle, shape);
+        self.last_handle
+    }
+
+    /// The shapes of an image, with handles for those that are held. Only at the beginning of a run.
+    fn load(&mut self, image: &Image) -> Result<()> {
+        self.loaded = true;
+        self.keys.extend(image.keys());
+        for (shape, holds) in load::load(image) {
+            for _ in 0..holds.min(MOST_HANDLES) {
+                self.give(shape.clone());
+            }
+            if holds > MOST_HANDLES {
+                self.pinned.push(shape);
+            }
+        }
+        self.show_live()
     }
 
     fn refuse(&mut self, refusal: Refusal) -> Result<()> {
@@ -127,13 +177,16 @@ impl<W: Write> Run<W> {
         writeln!(self.out, "swept {shapes} {tables}")
     }
 
-    /// Nothing is left of the run so far.
+    /// Nothing is left of the run so far. What no handle could release is not counted.
     fn new_run(&mut self) -> Result<()> {
         self.check_all()?;
         self.live.clear();
         self.last_handle = 0;
         self.keys.clear();
         let (shapes, tables) = freed_by_a_sweep();
+        self.loaded = false;
+        self.pinned.clear();
+        kept::sweep();
         writeln!(self.out, "ended {shapes} {tables}")
     }
 
@@ -159,17 +212,18 @@ impl<W: Write> Run<W> {
             "unique"
         };
         let proto = prototype_number(&shape.prototype());
-        let entries = list(
-            entries(shape)
-                .into_iter()
-                .map(|(key, slot)| format!("{}:{}", key.number(), slot_text(Some(slot)))),
-        );
-        let keys = list(shape.keys().iter().map(|key| key.number().to_string()));
+        let entries = inside::entries_text(&entries(shape));
+        let keys = inside::list(shape.keys().iter().map(|key| key.number().to_string()));
         writeln!(
             self.out,
             "shape {handle} {form} count {count} action {action} proto {proto} same {same} \
              entries {entries} keys {keys}"
         )?;
+        if self.loaded {
+            for line in inside::trail(shape) {
+                writeln!(self.out, "  {line}")?;
+            }
+        }
         self.check_lookups(handle, shape)
     }
 
@@ -210,14 +264,4 @@ fn freed_by_a_sweep() -> (usize, usize) {
     let tables = kept_tables();
     let shapes_freed = kept::sweep();
     (shapes_freed, tables - kept_tables())
-}
-
-fn slot_text(slot: Option<Slot>) -> String {
-    slot.map_or("none".to_string(), |slot| {
-        format!("{}:{}", slot.attributes.bits(), slot.index)
-    })
-}
-
-fn list(items: impl Iterator<Item = String>) -> String {
-    format!("[{}]", items.collect::<Vec<_>>().join(" "))
 }

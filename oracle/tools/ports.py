@@ -11,12 +11,10 @@ import subprocess
 import tempfile
 from multiprocessing.pool import ThreadPool
 
-from runs import ORACLE_FOLDER, Trouble, answer_numbers, answers_of_each, ask, freed, many_text
+from runs import ORACLE_FOLDER, Trouble, answer_numbers, answers_of_each, ask, freed, loads, many_text
 
 ROOT = ORACLE_FOLDER.parent
 RUNS_PER_PROCESS = 4096
-# How many calls the sequences of `--every` have.
-EVERY_DEPTH = 5
 # The images of the C calls are just large enough, twice or three times as large, in turn.
 LARGEST_FACTOR = 3
 
@@ -50,7 +48,7 @@ class StepRunner:
     """A program that reads document 01's lines, and answers after each block that it reads."""
 
     oracle_options = ["--brief"]
-    shows_live = False
+    shows_all = False
     # Its image has no room for 1,024 transitions.
     long_runs = {"trails": 500, "counters": 200}
 
@@ -73,14 +71,16 @@ class CCalls:
     """The archive of the C calls, with an image of its own for each run."""
 
     oracle_options = []
-    shows_live = True
+    shows_all = True
     # Each call and question tests the whole image, so there are fewer of these.
     long_runs = {"limit": 2, "trails": 20, "counters": 2}
 
-    def __init__(self):
-        run_tool(["rt", "staticlib", "shapes_c"])
-        archive = ROOT / "target" / "staticlib" / "libshapes_c.a"
-        self.driver = build_driver("c_calls", "-I", ROOT / "include", archive)
+    def __init__(self, archive):
+        if archive is None:
+            run_tool(["rt", "staticlib", "shapes_c"])
+            archive = ROOT / "target" / "staticlib" / "libshapes_c.a"
+        inside = ORACLE_FOLDER / "drivers" / "inside.c"
+        self.driver = build_driver("c_calls", inside, "-I", ROOT / "include", archive)
 
     def answers(self, text, part, said):
         with tempfile.NamedTemporaryFile("w", prefix="limits-") as limits:
@@ -93,11 +93,13 @@ class CCalls:
 
 def image_limits(run, answered):
     """S, T, K and E with room for what the oracle made in this run, and for no more. Each edge is made with its child,
-    so there are never more edges than shapes were made."""
+    so there are never more edges than shapes were made. A loaded image has its own."""
+    if loads(run):
+        return [1, 1, 1, 1]
     swept = [answer_numbers(line) for line in answered if re.match("swept|ended", line)]
     shapes, tables = freed(swept)
     shapes, tables, edges = run.room or (shapes, tables, shapes)
-    keys = max(line.count(":") // 2 for line in answered)
+    keys = max(line.count(":") // 2 for line in answered if not line.startswith(" "))
     return [max(1, size) for size in (shapes, tables, keys, edges)]
 
 
@@ -115,10 +117,10 @@ def parts(runs):
 
 def complaint(port, part):
     """What is wrong with the port's answers to these runs: nothing, or the first thing."""
-    text = many_text(part, port.shows_live)
+    text = many_text(part, port.shows_all, port.shows_all)
     said = ask("--free-at-sweep", text, *port.oracle_options)
     answered = port.answers(text, part, said)
-    return None if answered == said else first_difference(part, said, answered)
+    return None if answered == said else first_difference(part, text, said, answered)
 
 
 def complaints(port, runs):
@@ -130,14 +132,25 @@ def complaints(port, runs):
             yield from zip(some, pool.map(lambda part: complaint(port, part), some))
 
 
-def first_difference(part, said, answered):
-    ended = line = 0
-    for wanted, got in itertools.zip_longest(said.splitlines(), answered.splitlines()):
-        if wanted != got:
-            break
-        ended, line = (ended + 1, 0) if wanted.startswith("ended ") else (ended, line + 1)
-    # The first line `ended` stands before the first run, and an unended line behind the last.
-    run = part[min(max(1, ended), len(part)) - 1]
-    read = run.lines[: line + 1] if ended <= len(part) else [run.unended]
-    lines = "".join(f"    {text}\n" for text in read)
-    return f"{run.name}: answered `{got}`, the oracle says `{wanted}`, after\n{lines}"
+def by_line(answered):
+    """The answer to each line: more lines of it are indented, complain, or are the shapes that are live."""
+    answers, shapes = [], 0
+    for line in answered.splitlines():
+        if answers and (shapes or line.startswith((" ", "error"))):
+            answers[-1].append(line)
+            shapes -= line.startswith("shape ")
+        else:
+            answers.append([line])
+            shapes = int(line.split()[1]) if line.startswith("live ") else 0
+    return answers
+
+
+def first_difference(part, text, said, answered):
+    lines = text.splitlines()
+    pairs = itertools.zip_longest(by_line(said), by_line(answered), fillvalue=[])
+    number, wanted, got = next((number, *pair) for number, pair in enumerate(pairs) if pair[0] != pair[1])
+    begun = max((at for at, line in enumerate(lines[:number]) if line == "N"), default=0)
+    run = part[min(max(1, lines[:number].count("N")), len(part)) - 1]
+    wanted, got = next(pair for pair in itertools.zip_longest(wanted, got) if pair[0] != pair[1])
+    read = "".join(f"    {line}\n" for line in lines[begun + 1: number + 1])
+    return f"{run.name}: answered `{got}`, the oracle says `{wanted}`, after\n{read}"

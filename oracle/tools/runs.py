@@ -15,6 +15,8 @@ from pathlib import Path
 COLLECTORS = ("--free-at-sweep", "--free-at-once")
 ORACLE_FOLDER = Path(__file__).resolve().parent.parent
 BAD_LINE = [14]
+# Loads nothing; from then on what is inside the shapes is shown too.
+EMPTY_IMAGE = "L 0"
 
 
 class Trouble(Exception):
@@ -68,12 +70,18 @@ def read(text):
     return runs
 
 
-def many_text(runs, shown=False):
-    """Runs one after another, begun and ended by `N`, and what is live shown after each. Only the last of them may have
-    an unended line."""
-    at_end = "?\n" if shown else ""
-    texts = ["N\n" + "".join(f"{line}\n" for line in run.lines) + at_end for run in runs]
-    return "".join(texts) + "N\n" + runs[-1].unended
+def loads(run):
+    """Whether a run begins at an image of its own."""
+    return run.lines[0].startswith("L ")
+
+
+def many_text(runs, shown=False, inside=False):
+    """Runs one after another, begun and ended by `N`, and what is live shown after each; with what is inside the shapes
+    where that is asked for. Only the last of them may have an unended line."""
+    def text(run):
+        lines = [EMPTY_IMAGE] if inside and not loads(run) else []
+        return "".join(f"{line}\n" for line in ["N", *lines, *run.lines, *(["?"] if shown else [])])
+    return "".join(map(text, runs)) + "N\n" + runs[-1].unended
 
 
 def answers_of_each(answered):

@@ -10,4 +10,4 @@ mod trace;
 
 pub use boa_gc_derive::{Finalize, Trace};
 pub use pointers::{Gc, GcRefCell, WeakGc};
-pub use trace::{Finalize, Trace};
+pub use trace::{Finalize, Trace, Visitor};

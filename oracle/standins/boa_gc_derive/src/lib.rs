@@ -3,7 +3,7 @@
 
 mod item;
 
-use item::{Body, Item};
+use item::{Body, Field, Item};
 use proc_macro::TokenStream;
 
 #[proc_macro_derive(Finalize)]
@@ -23,32 +23,46 @@ pub fn derive_trace(input: TokenStream) -> TokenStream {
         body,
     } = Item::parse(input);
     let (parameters, arguments) = (generics.parameters, generics.arguments);
-    let search = match body {
-        Body::Fields(fields) => fields.iter().rev().fold("None".to_string(), |rest, field| {
-            let name = &field.name;
-            if field.ignored {
-                // What follows an ignored field is never reached.
-                format!("Some(&self.{name})")
-            } else {
-                format!("::boa_gc::Trace::ignored_field(&self.{name}).or_else(|| {rest})")
-            }
-        }),
-        Body::Variants(variants) => {
-            let arms: String = variants
-                .iter()
-                .map(|variant| {
-                    format!("Self::{variant}(of) => ::boa_gc::Trace::ignored_field(of),")
-                })
-                .collect();
-            format!("match self {{ {arms} }}")
-        }
+    let methods = match body {
+        Body::Fields(fields) => methods_of_struct(&fields),
+        Body::Variants(variants) => methods_of_enum(&variants),
         Body::Other => panic!("this stand-in cannot derive Trace for a tuple struct"),
     };
+    format!("unsafe impl<{parameters}> ::boa_gc::Trace for {name}<{arguments}> {{ {methods} }}")
+        .parse()
+        .expect("the text is Rust")
+}
+
+fn methods_of_struct(fields: &[Field]) -> String {
+    let search = fields.iter().rev().fold("None".to_string(), |rest, field| {
+        let name = &field.name;
+        if field.ignored {
+            // What follows an ignored field is never reached.
+            format!("Some(&self.{name})")
+        } else {
+            format!("::boa_gc::Trace::ignored_field(&self.{name}).or_else(|| {rest})")
+        }
+    });
+    let each = |call: &str| -> String {
+        let traced = fields.iter().filter(|field| !field.ignored);
+        traced
+            .map(|field| format!("::boa_gc::Trace::{call}self.{}, visitor);", field.name))
+            .collect()
+    };
     format!(
-        "unsafe impl<{parameters}> ::boa_gc::Trace for {name}<{arguments}> {{
-            fn ignored_field(&self) -> Option<&dyn ::std::any::Any> {{ {search} }}
-        }}"
+        "fn ignored_field(&self) -> Option<&dyn ::std::any::Any> {{ {search} }}
+        fn visit_cells(&self, visitor: &mut dyn ::boa_gc::Visitor) {{ {} }}
+        fn visit(&mut self, visitor: &mut dyn ::boa_gc::Visitor) {{ {} }}",
+        each("visit_cells(&"),
+        each("visit(&mut "),
     )
-    .parse()
-    .expect("the text is Rust")
+}
+
+/// Nothing is visited here: no cell of a shape holds an enum.
+fn methods_of_enum(variants: &[String]) -> String {
+    let arms: String = variants
+        .iter()
+        .map(|variant| format!("Self::{variant}(of) => ::boa_gc::Trace::ignored_field(of),"))
+        .collect();
+    format!("fn ignored_field(&self) -> Option<&dyn ::std::any::Any> {{ match self {{ {arms} }} }}")
 }

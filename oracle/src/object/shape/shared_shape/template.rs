@@ -5,6 +5,9 @@
 //! the shapes and the shared shapes. Only the table of a unique shape is out of
 //! its sight; the stand-in `derive(Trace)` leads there.
 
+pub(crate) mod inside;
+pub(crate) mod load;
+
 use std::{any::Any, cell::RefCell, collections::HashSet, ptr, rc::Rc};
 
 use boa_gc::{Trace, kept};
@@ -21,6 +24,14 @@ pub(crate) fn transition_count(shape: &Shape) -> u16 {
     match &shape.inner {
         Inner::Shared(shared) => shared.transition_count(),
         Inner::Unique(_) => 0,
+    }
+}
+
+/// None for a root or a unique shape.
+pub(crate) fn previous(shape: &Shape) -> Option<Shape> {
+    match &shape.inner {
+        Inner::Shared(shared) => shared.previous().cloned().map(Into::into),
+        Inner::Unique(_) => None,
     }
 }
 
