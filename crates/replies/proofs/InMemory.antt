@@ -1,5 +1,5 @@
 -- How a reply lies in memory, where C reads it: its numbers in the order of C's struct, four bytes each, with nothing
--- between them. `lowered` and `mir` are a reply and its type as the compiled code has them.
+-- between them. `mir` and `lowered` are the struct and a reply as the machine of the logic has them.
 -- Assumes nothing.
 use mathlib.Core.Path.{_≡_, refl}
 use mathlib.Core.List.{_++_}
