@@ -1,33 +1,28 @@
 -- Every call on a sound model leaves a sound model, and keeps all shapes in use but those that it is made to
 -- change: the unique that it acts on, and what a sweep frees. Holds change by what the reply says.
 -- Assumes nothing.
-use mathlib.Core.Bool.{true, false, not}
+use mathlib.Core.Bool.{true, false}
 use mathlib.Core.List.{List, []}
-use mathlib.Core.Option.{Option, none, some}
 use mathlib.Core.Logic.{_⊎_, inl, inr, _≢_}
 use mathlib.Core.Path.{_≡_, refl, sym, ap}
 use Prim.Native.Nat.{ℕ, _+_, _<_}
 use native.Mathlib.Omega.{arith}
 use borrow.Author.Tests.{eqb-false, ne-eqb}
-use lib.Dec.{eqb, ltb}
-use lib.ListN.{length}
+use lib.Dec.{eqb}
 use Rattle.store.specs.Model.{Model, freeShape, shapeAt}
 use Rattle.store.specs.ListLaws.{both-and, Decided, either, not-both}
 use Rattle.store.specs.declared.Shape.{Shape}
 use Rattle.store.specs.declared.Entry.{Entry}
 use Rattle.rules.specs.declared.ChangeTransitionAction.{ChangeTransitionAction}
 use Rattle.rules.specs.declared.ChangeTransitionAction.the-variants.{Nothing}
-use Rattle.rules.specs.declared.Refusal.the-variants.{BadKey, NoShape, OutShort}
-use Rattle.rules.specs.Numbers.{goodKey}
+use Rattle.rules.specs.declared.Refusal.the-variants.{NoShape}
 use Rattle.rules.specs.Shapes.{attributesIn, shared, unique, rootShape, uniqueShape}
 use Rattle.rules.specs.Refusals.{Got, ok, refused, _>>=_}
 use Rattle.rules.specs.Settled.{guard-passed, same-given}
 use Rattle.rules.specs.Steps.{Placed, fresh}
-use Rattle.rules.specs.Sweep.{found, keyList}
 use Rattle.rules.specs.Calls.{Call, newRoot, newUnique, insertKey, changeKey, removeKey, changePrototype}
-use Rattle.rules.specs.Calls.{hold, release, previous, sweep, lookup, keysInto, prototypeOf, isShared}
-use Rattle.rules.specs.Calls.{transitionsOf, propertiesOf, Answer, Given, Reply, No, Yes, unheld, grant}
-use Rattle.rules.specs.Calls.{slotOf, actionFor, grantPrevious, perform, settle, call}
+use Rattle.rules.specs.Calls.{hold, release, previous, sweep, ask, Answer, Given, Reply, No, Yes, unheld, grant}
+use Rattle.rules.specs.Calls.{actionFor, grantPrevious, perform, settle, call}
 use Rattle.rules.specs.InUse.{shared-used}
 use Rattle.theorems.specs.Facts.{Used, Sound, shared-not-unique}
 use Rattle.theorems.specs.FactsSound.{facts-sound}
@@ -37,6 +32,7 @@ use Rattle.theorems.specs.Taken.{bind-passed}
 use Rattle.theorems.specs.HeldChains.{OnHeldChain, held-on-its-chain, swept-keeps}
 use Rattle.theorems.specs.Made.{SharedAt, entriesAt, prototypeAt, transitionsAt}
 use Rattle.theorems.specs.Quiet.{holdsAt, one, grantedBy, grant-holds, release-holds, sweep-holds}
+use Rattle.theorems.specs.Questions.{Told, told, question-told}
 use Rattle.theorems.specs.Changes.{Untouched, Gives, root-gives, unique-gives, may-act}
 use Rattle.theorems.specs.Granting.{insert-grants, change-grants, removal-grants, prototype-grants}
 
@@ -55,12 +51,7 @@ KeptBy m (hold n) = Used m
 KeptBy m (release n) = Used m
 KeptBy m (previous n) = Used m
 KeptBy m sweep = OnHeldChain m
-KeptBy m (lookup n k) = Used m
-KeptBy m (keysInto n out) = Used m
-KeptBy m (prototypeOf n) = Used m
-KeptBy m (isShared n) = Used m
-KeptBy m (transitionsOf n) = Used m
-KeptBy m (propertiesOf n) = Used m
+KeptBy m (ask n q) = Used m
 
 -- The place that a call takes a hold from, 0 for none.
 abbrev pub releasedBy : Call → ℕ
@@ -74,12 +65,7 @@ releasedBy (hold n) = 0
 releasedBy (release n) = n
 releasedBy (previous n) = 0
 releasedBy sweep = 0
-releasedBy (lookup n k) = 0
-releasedBy (keysInto n out) = 0
-releasedBy (prototypeOf n) = 0
-releasedBy (isShared n) = 0
-releasedBy (transitionsOf n) = 0
-releasedBy (propertiesOf n) = 0
+releasedBy (ask n q) = 0
 
 -- What the reply to a call says of the holds of the place n: one is granted if the answer gives n, and one is
 -- released if the call is `release n`; neither if the call is refused.
@@ -155,14 +141,9 @@ module _ (m : Model) (sound : Sound m) where
       go (inr r) = absurd (eqb-false p 0 notRoot (sound .shapes n u .words .unique r .previous))
 
   -- A question leaves the model as it was.
-  asked : (c : Call) → releasedBy c ≡ 0 → (a : Answer) → grantedBy a ≡ 0
-      → (y : Model × Answer) → ok (m, a) ≡ ok y → Called m c (y .0) (Yes (y .1))
-  asked c quiet a nowhere y e =
-      rw (← same-given e) record { keeps = keeps-self sound; holds = λ n place. rw (quiet, nowhere) }
-
-  pub slot-grants : (o : Option Entry) → grantedBy (slotOf o) ≡ 0
-  slot-grants none = refl
-  slot-grants (some e) = refl
+  asked : (c : Call) → releasedBy c ≡ 0 → (y : Model × Answer) → Told m y → Called m c (y .0) (Yes (y .1))
+  asked c quiet y t =
+      rw (t .sameModel) record { keeps = keeps-self sound; holds = λ n place. rw (quiet, t .noShape) }
 
   pub performed : (c : Call) (y : Model × Answer) → perform m c ≡ ok y → Called m c (y .0) (Yes (y .1))
   unfolding perform
@@ -204,29 +185,14 @@ module _ (m : Model) (sound : Sound m) where
     where
       go : Used m n → grantPrevious m (shapeAt m n .previous) ≡ ok y → Decided (eqb (shapeAt m n .previous) 0)
           → Called m (previous n) (y .0) (Yes (y .1))
-      go u e (inl q) = asked (previous n) refl (Given 0 Nothing 0) refl y (rw q at e)
+      go u e (inl q) = asked (previous n) refl y (told m (Given 0 Nothing 0) refl y (rw q at e))
       go u e (inr q) =
           let p = shapeAt m n .previous in
           gives (previous n) refl (λ k u. u) Nothing (m, p) (previous-gives n u q) y (rw q at e)
   performed sweep y e =
       rw (← same-given e)
       record { keeps = swept-keeps m sound; holds = λ n place. rw (sweep-holds m sound n) }
-  performed (lookup n k) y e =
-      let (key, e₁) = guard-passed BadKey (not (goodKey k)) _ y e in
-      let o = found k (entriesAt m n) in
-      asked (lookup n k) refl (slotOf o) (slot-grants o) y (guard-passed NoShape (unheld m n) _ y e₁ .1)
-  performed (keysInto n out) y e =
-      let (may, e₁) = guard-passed NoShape (unheld m n) _ y e in
-      let short = ltb (length out) (length (keyList (entriesAt m n))) in
-      asked (keysInto n out) refl _ refl y (guard-passed OutShort short _ y e₁ .1)
-  performed (prototypeOf n) y e =
-      asked (prototypeOf n) refl _ refl y (guard-passed NoShape (unheld m n) _ y e .1)
-  performed (isShared n) y e =
-      asked (isShared n) refl _ refl y (guard-passed NoShape (unheld m n) _ y e .1)
-  performed (transitionsOf n) y e =
-      asked (transitionsOf n) refl _ refl y (guard-passed NoShape (unheld m n) _ y e .1)
-  performed (propertiesOf n) y e =
-      asked (propertiesOf n) refl _ refl y (guard-passed NoShape (unheld m n) _ y e .1)
+  performed (ask n q) y e = asked (ask n q) refl y (question-told m n q y e)
 
   -- Refused or not, a call leaves a sound model, keeps what it is not made to change and counts its holds.
   pub called : (c : Call) → Called m c (call m c .0) (call m c .1)
@@ -277,12 +243,7 @@ module _ (m : Model) (sound : Sound m) (n : ℕ) (isHeld : HeldAt m n) where
     shared-kept (release k) = held-used
     shared-kept (previous k) = held-used
     shared-kept sweep = held-stays
-    shared-kept (lookup k x) = held-used
-    shared-kept (keysInto k out) = held-used
-    shared-kept (prototypeOf k) = held-used
-    shared-kept (isShared k) = held-used
-    shared-kept (transitionsOf k) = held-used
-    shared-kept (propertiesOf k) = held-used
+    shared-kept (ask k q) = held-used
 
     -- and no call a held shared one.
     pub call-keeps-shared : (c : Call) → Kept m (call m c .0) n

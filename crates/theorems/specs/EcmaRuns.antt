@@ -20,8 +20,7 @@ use Rattle.store.specs.ThereAndBack.{parse-words, blank-words, fits-blank}
 use Rattle.store.specs.declared.Limits.{Limits}
 use Rattle.store.specs.declared.Shape.{Shape}
 use Rattle.rules.specs.declared.ChangeTransitionAction.{ChangeTransitionAction}
-use Rattle.rules.specs.declared.Refusal.the-variants.{BadKey, NoShape, HoldsFull, BadSize, OutShort}
-use Rattle.rules.specs.Numbers.{goodKey}
+use Rattle.rules.specs.declared.Refusal.the-variants.{NoShape, HoldsFull, BadSize, OutShort}
 use Rattle.rules.specs.Shapes.{unique}
 use Rattle.rules.specs.Refusals.{Got, ok}
 use Rattle.rules.specs.Settled.{guard-passed, same-given, settle-answered, call-answered}
@@ -29,21 +28,21 @@ use Rattle.rules.specs.Formatted.{format-sound}
 use Rattle.rules.specs.FirstLaws.{refused-call}
 use Rattle.rules.specs.Steps.{Placed}
 use Rattle.rules.specs.Sound.{sound}
-use Rattle.rules.specs.Sweep.{found, keyList}
+use Rattle.rules.specs.Sweep.{keyList}
 use Rattle.rules.specs.Trails.{trail}
 use Rattle.rules.specs.Ecma.{Properties, create, change, delete, ownPropertyKeys}
 use Rattle.rules.specs.Calls.{Call, newRoot, newUnique, insertKey, changeKey, removeKey, changePrototype}
-use Rattle.rules.specs.Calls.{hold, release, previous, sweep, lookup, keysInto, prototypeOf, isShared}
-use Rattle.rules.specs.Calls.{transitionsOf, propertiesOf, Answer, Given, Freed, Done, Found, NotFound}
-use Rattle.rules.specs.Calls.{Listed, Number, Reply, No, Yes, unheld, grant, slotOf, listInto, perform, call}
+use Rattle.rules.specs.Calls.{hold, release, previous, sweep, ask, keysInto, Answer, Given, Freed, Done, Found}
+use Rattle.rules.specs.Calls.{NotFound, Listed, Number, Reply, No, Yes, unheld, grant, listInto, perform, call}
 use Rattle.rules.specs.Calls.{callOn, formatting, format}
 use Rattle.theorems.specs.Facts.{Sound, used-place}
 use Rattle.theorems.specs.Entries.{keys}
 use Rattle.theorems.specs.Uniques.{OldOne}
 use Rattle.theorems.specs.Made.{entriesAt, previousAt}
 use Rattle.theorems.specs.Quiet.{grantedBy, raw-holds}
+use Rattle.theorems.specs.Questions.{question-told}
 use Rattle.theorems.specs.Changes.{Untouched}
-use Rattle.theorems.specs.CallsKeep.{KeptBy, HeldAt, held-used, held-stays, slot-grants, called}
+use Rattle.theorems.specs.CallsKeep.{KeptBy, HeldAt, held-used, held-stays, called}
 use Rattle.theorems.specs.Outcomes.{Outcome}
 use Rattle.theorems.specs.Granting.{Granting, insert-grants, change-grants, removal-grants}
 use Rattle.theorems.specs.Granting.{prototype-grants}
@@ -74,12 +73,7 @@ operation m (hold n) ls = ls n
 operation m (previous n) ls = built (trail m (previousAt m n)) []
 operation m (release n) ls = []
 operation m sweep ls = []
-operation m (lookup n k) ls = []
-operation m (keysInto n out) ls = []
-operation m (prototypeOf n) ls = []
-operation m (isShared n) ls = []
-operation m (transitionsOf n) ls = []
-operation m (propertiesOf n) ls = []
+operation m (ask n q) ls = []
 
 -- The shape that a call changes, 0 for none.
 abbrev pub changedBy : Call → ℕ
@@ -93,12 +87,7 @@ changedBy (hold n) = 0
 changedBy (release n) = 0
 changedBy (previous n) = 0
 changedBy sweep = 0
-changedBy (lookup n k) = 0
-changedBy (keysInto n out) = 0
-changedBy (prototypeOf n) = 0
-changedBy (isShared n) = 0
-changedBy (transitionsOf n) = 0
-changedBy (propertiesOf n) = 0
+changedBy (ask n q) = 0
 
 -- The lists after a call and its reply: the answered number gets the operation's list, and a unique whose
 -- keys went to another number gets the empty one. (A shared number that is given anew gets the newest list.)
@@ -120,7 +109,7 @@ listsOver ws (c ∷ cs) ls = listsOver (callOn ws c .0) cs (listsAfter (parse ws
 pub record KeyOrder (ws : List ℕ) (n : ℕ) (ps : Properties) : Type 0 where
   pub stands : StandsFor (parse ws) n ps
   pub keyOrder : keyList (entriesAt (parse ws) n) ≡ ownPropertyKeys ps
-  pub listed : (out : List ℕ) (a : Answer) → callOn ws (keysInto n out) .1 ≡ Yes a
+  pub listed : (out : List ℕ) (a : Answer) → callOn ws (ask n (keysInto out)) .1 ≡ Yes a
       → a ≡ listInto (ownPropertyKeys ps) out
 
 -- Each held shape's list stands for it.
@@ -187,28 +176,8 @@ module _ (m : Model) (sound : Sound m) where
         let p = guard-passed NoShape (unheld m n) _ _ (performs m sound (release n) e) in
         absurd (place (no-shape Done refl (p .1)))
     answer-stands sweep e place = absurd (place (no-shape _ refl (performs m sound sweep e)))
-    answer-stands (lookup n k) e place =
-        let o = found k (entriesAt m n) in
-        let p = guard-passed BadKey (not (goodKey k)) _ _ (performs m sound (lookup n k) e) in
-        let q = guard-passed NoShape (unheld m n) _ _ (p .1) in
-        absurd (place (no-shape (slotOf o) (slot-grants m sound o) (q .1)))
-    answer-stands (keysInto n out) e place =
-        let ks = keyList (entriesAt m n) in
-        let p = guard-passed NoShape (unheld m n) _ _ (performs m sound (keysInto n out) e) in
-        let q = guard-passed OutShort (ltb (length out) (length ks)) _ _ (p .1) in
-        absurd (place (no-shape (listInto ks out) refl (q .1)))
-    answer-stands (prototypeOf n) e place =
-        let p = guard-passed NoShape (unheld m n) _ _ (performs m sound (prototypeOf n) e) in
-        absurd (place (no-shape (Number _) refl (p .1)))
-    answer-stands (isShared n) e place =
-        let p = guard-passed NoShape (unheld m n) _ _ (performs m sound (isShared n) e) in
-        absurd (place (no-shape (Number _) refl (p .1)))
-    answer-stands (transitionsOf n) e place =
-        let p = guard-passed NoShape (unheld m n) _ _ (performs m sound (transitionsOf n) e) in
-        absurd (place (no-shape (Number _) refl (p .1)))
-    answer-stands (propertiesOf n) e place =
-        let p = guard-passed NoShape (unheld m n) _ _ (performs m sound (propertiesOf n) e) in
-        absurd (place (no-shape (Number _) refl (p .1)))
+    answer-stands (ask n q) e place =
+        absurd (place (question-told m n q _ (performs m sound (ask n q) e) .noShape))
 
   -- ## The other shapes
 
@@ -243,12 +212,7 @@ module _ (m : Model) (sound : Sound m) where
   old-empty (release n) a e = λ k place q. absurd (place q)
   old-empty (previous n) a e = λ k place q. absurd (place q)
   old-empty sweep a e = λ k place q. absurd (place q)
-  old-empty (lookup n x) a e = λ k place q. absurd (place q)
-  old-empty (keysInto n out) a e = λ k place q. absurd (place q)
-  old-empty (prototypeOf n) a e = λ k place q. absurd (place q)
-  old-empty (isShared n) a e = λ k place q. absurd (place q)
-  old-empty (transitionsOf n) a e = λ k place q. absurd (place q)
-  old-empty (propertiesOf n) a e = λ k place q. absurd (place q)
+  old-empty (ask n x) a e = λ k place q. absurd (place q)
 
   -- Every other held shape is kept.
   module _ (k : ℕ) (isHeld : HeldAt m k) where
@@ -269,12 +233,7 @@ module _ (m : Model) (sound : Sound m) where
     others-kept (release n) other = held-used m sound k isHeld
     others-kept (previous n) other = held-used m sound k isHeld
     others-kept sweep other = held-stays m sound k isHeld
-    others-kept (lookup n x) other = held-used m sound k isHeld
-    others-kept (keysInto n out) other = held-used m sound k isHeld
-    others-kept (prototypeOf n) other = held-used m sound k isHeld
-    others-kept (isShared n) other = held-used m sound k isHeld
-    others-kept (transitionsOf n) other = held-used m sound k isHeld
-    others-kept (propertiesOf n) other = held-used m sound k isHeld
+    others-kept (ask n q) other = held-used m sound k isHeld
 
   -- Any list that stands for a held shape stands for it after a call, unless the call changes that unique:
   -- two objects that have one shape may each keep a list of their own.
@@ -366,8 +325,8 @@ key-order-of ws e n ps stands =
       stands = stands;
       keyOrder = order;
       listed = λ out a reply.
-          let told = sym (sound-call ws (keysInto n out) e .reply) ∙ reply in
-          let done = call-answered m (keysInto n out) a told .1 in
+          let told = sym (sound-call ws (ask n (keysInto out)) e .reply) ∙ reply in
+          let done = call-answered m (ask n (keysInto out)) a told .1 in
           let ks = keyList (entriesAt m n) in
           let p = guard-passed NoShape (unheld m n) _ _ done in
           let q = guard-passed OutShort (ltb (length out) (length ks)) _ _ (p .1) in

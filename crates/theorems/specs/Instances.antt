@@ -20,8 +20,8 @@ use Rattle.rules.specs.Refusals.{Got, ok, refused}
 use Rattle.rules.specs.Steps.{Step, insert, Placed, step, rollback}
 use Rattle.rules.specs.Sound.{soundModel}
 use Rattle.rules.specs.Sweep.{found, swept}
-use Rattle.rules.specs.Calls.{Call, insertKey, changePrototype, lookup, Found, NotFound, slotOf, Reply, Yes}
-use Rattle.rules.specs.Calls.{call}
+use Rattle.rules.specs.Calls.{Call, insertKey, changePrototype, ask, lookup, Found, NotFound, slotOf}
+use Rattle.rules.specs.Calls.{Reply, Yes, call}
 use Rattle.rules.specs.Runner.{fourNumbers}
 use Rattle.rules.specs.Transcript.{answers, image, shape, edge, a, b, c, s}
 use Rattle.theorems.specs.Lookups.{OwnEntry, lookup-own}
@@ -145,10 +145,10 @@ edge-to-freed-is-dead = refl
 
 abbrev LookupOwn : Type 0
 LookupOwn =
-    (m : Model) (n k x a : ℕ) → call m (lookup n k) .1 ≡ Yes (Found x a)
+    (m : Model) (n k x a : ℕ) → call m (ask n (lookup k)) .1 ≡ Yes (Found x a)
     → OwnEntry m (shapeAt m n) (entry k a x)
 
-swept-key-not-found-follows : LookupOwn → call leftAlone (lookup 1 a) .1 ≡ Yes NotFound
+swept-key-not-found-follows : LookupOwn → call leftAlone (ask 1 (lookup a)) .1 ≡ Yes NotFound
 unfolding answers
 swept-key-not-found-follows own = go (found a (entriesAt leftAlone 1)) refl
   where
@@ -159,7 +159,7 @@ swept-key-not-found-follows own = go (found a (entriesAt leftAlone 1)) refl
         let noneBelow = own leftAlone 1 a (x .slot .0) (x .attributes) reply .below in
         absurd (omega arith)
 
-swept-key-not-found : call leftAlone (lookup 1 a) .1 ≡ Yes NotFound
+swept-key-not-found : call leftAlone (ask 1 (lookup a)) .1 ≡ Yes NotFound
 unfolding answers
 swept-key-not-found = refl
 

@@ -27,6 +27,7 @@ pub mod Sweeps
 pub mod HeldChains
 pub mod Sequence
 pub mod Quiet
+pub mod Questions
 pub mod Changes
 pub mod Granting
 pub mod CallsKeep
