@@ -20,7 +20,7 @@ use Rattle.rules.specs.Calls.{Answer, Given, Freed, Done, Found, NotFound, List
 use Rattle.rules.specs.Calls.{Question, ask, perform}
 use Rattle.rules.specs.Calls.{lookup, keysInto, prototypeOf, isShared, transitionsOf, propertiesOf}
 use Rattle.rules.specs.Replies.{Answers}
-use Rattle.theorems.specs.Questions.{goodQuestion, question-refused}
+use Rattle.theorems.specs.Unheld.{goodQuestion, unheld-refused}
 use Rattle.property_table.specs.Copies.{entriesIn}
 use Rattle.property_table.specs.Lookup.{lookedUp, looked-held, looked-absent}
 use Rattle.property_table.specs.declared.Property.{Property}
@@ -38,7 +38,7 @@ module _ (ws : List ℕ) (n : ℕ) where
 
   pub no-shape : unheld m n ≡ true → (q : Question) → goodQuestion q ≡ true
       → Answers ws ws (perform m (ask n q)) (No NoShape)
-  no-shape none q good = rw (question-refused m n q good none) (refl, refl)
+  no-shape none q good = rw (unheld-refused m n none (ask n q) refl good) (refl, refl)
 
 -- ## Answers
 

@@ -23,9 +23,8 @@ use Rattle.rules.specs.Refusals.{Got, ok}
 use Rattle.rules.specs.Settled.{guard-passed, same-given, call-answered}
 use Rattle.rules.specs.Steps.{Step, Placed, fresh}
 use Rattle.rules.specs.Trails.{trail, root}
-use Rattle.rules.specs.Calls.{Call, newRoot, newUnique, insertKey, changeKey, removeKey, changePrototype}
-use Rattle.rules.specs.Calls.{hold, previous, Answer, Given, Reply, Yes, unheld, grant, grantPrevious}
-use Rattle.rules.specs.Calls.{perform, call}
+use Rattle.rules.specs.Calls.{Call, newRoot, newUnique, insertKey, changeKey, removeKey, changePrototype, hold}
+use Rattle.rules.specs.Calls.{previous, Answer, Given, Reply, Yes, unheld, grant, grantPrevious, perform, call}
 use Rattle.rules.specs.InUse.{shared-used}
 use Rattle.theorems.specs.Facts.{Used, Sound, unique-used}
 use Rattle.theorems.specs.Entries.{keys, laid-without-absent}
@@ -34,8 +33,7 @@ use Rattle.theorems.specs.Holds.{shape-put, grant-keeps}
 use Rattle.theorems.specs.Taken.{bind-passed}
 use Rattle.theorems.specs.Uniques.{OldOne}
 use Rattle.theorems.specs.Made.{SharedAt, entriesAt, prototypeAt, previousAt, transitionsAt, Contents}
-use Rattle.theorems.specs.Made.{own-good}
-use Rattle.theorems.specs.Made.{kept-contents}
+use Rattle.theorems.specs.Made.{own-good, kept-contents}
 use Rattle.theorems.specs.SameTrail.{trail-length}
 use Rattle.theorems.specs.Outcomes.{Outcome, byInsert, byChange, byRemoval, byPrototype}
 use Rattle.theorems.specs.Changes.{Gives, Limited, root-gives, unique-gives, may-act}

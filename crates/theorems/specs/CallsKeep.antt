@@ -1,13 +1,13 @@
 -- Every call on a sound model leaves a sound model, and keeps all shapes in use but those that it is made to
 -- change: the unique that it acts on, and what a sweep frees. Holds change by what the reply says.
 -- Assumes nothing.
-use mathlib.Core.Bool.{true, false}
+use mathlib.Core.Bool.{true, false, _&&_, and-false}
 use mathlib.Core.List.{List, []}
 use mathlib.Core.Logic.{_⊎_, inl, inr, _≢_}
-use mathlib.Core.Path.{_≡_, refl, sym, ap}
-use Prim.Native.Nat.{ℕ, _+_, _<_}
+use mathlib.Core.Path.{_≡_, refl, sym, _∙_, ap}
+use Prim.Native.Nat.{ℕ, _+_, _≤_, _<_}
 use native.Mathlib.Omega.{arith}
-use borrow.Author.Tests.{eqb-false, ne-eqb}
+use borrow.Author.Tests.{eqb-false, eq-eqb, ne-eqb}
 use lib.Dec.{eqb}
 use Rattle.store.specs.Model.{Model, freeShape, shapeAt}
 use Rattle.store.specs.ListLaws.{both-and, Decided, either, not-both}
@@ -20,8 +20,8 @@ use Rattle.rules.specs.Shapes.{attributesIn, shared, unique, rootShape, uniqueS
 use Rattle.rules.specs.Refusals.{Got, ok, refused, _>>=_}
 use Rattle.rules.specs.Settled.{guard-passed, same-given}
 use Rattle.rules.specs.Steps.{Placed, fresh}
-use Rattle.rules.specs.Calls.{Call, newRoot, newUnique, insertKey, changeKey, removeKey, changePrototype}
-use Rattle.rules.specs.Calls.{hold, release, previous, sweep, ask, Answer, Given, Reply, No, Yes, unheld, grant}
+use Rattle.rules.specs.Calls.{Call, newRoot, newUnique, insertKey, changeKey, removeKey, changePrototype, hold}
+use Rattle.rules.specs.Calls.{release, previous, sweep, ask, Answer, Given, Reply, No, Yes, unheld, grant}
 use Rattle.rules.specs.Calls.{actionFor, grantPrevious, perform, settle, call}
 use Rattle.rules.specs.InUse.{shared-used}
 use Rattle.theorems.specs.Facts.{Used, Sound, shared-not-unique}
@@ -67,6 +67,20 @@ releasedBy (previous n) = 0
 releasedBy sweep = 0
 releasedBy (ask n q) = 0
 
+-- The shape that a call changes, 0 for none.
+abbrev pub changedBy : Call → ℕ
+changedBy newRoot = 0
+changedBy newUnique = 0
+changedBy (insertKey n k a) = n
+changedBy (changeKey n k a) = n
+changedBy (removeKey n k) = n
+changedBy (changePrototype n p) = n
+changedBy (hold n) = 0
+changedBy (release n) = 0
+changedBy (previous n) = 0
+changedBy sweep = 0
+changedBy (ask n q) = 0
+
 -- What the reply to a call says of the holds of the place n: one is granted if the answer gives n, and one is
 -- released if the call is `release n`; neither if the call is refused.
 abbrev pub granted : (n : ℕ) → Reply → ℕ
@@ -81,6 +95,8 @@ released n c (Yes a) = one (releasedBy c) n
 pub record Called (m : Model) (c : Call) (j : Model) (r : Reply) : Type 0 where
   pub keeps : Keeps m j (KeptBy m c)
   pub holds : (n : ℕ) → n ≢ 0 → holdsAt j n + released n c r ≡ holdsAt m n + granted n r
+  -- a hold that is released was there
+  pub enough : (n : ℕ) → n ≢ 0 → released n c r ≤ holdsAt m n
 
 -- ## Each call
 
@@ -101,6 +117,7 @@ module _ (m : Model) (sound : Sound m) where
         holds = λ n place.
             rw (quiet, not-counted n place)
             (omega (arith, grant-holds (x .0) s (x .1) (g .isUsed) action y e n, g .sameHolds n));
+        enough = λ n place. rw (quiet, not-counted n place) (omega arith);
       }
 
   -- The same of what a rule gives.
@@ -143,7 +160,11 @@ module _ (m : Model) (sound : Sound m) where
   -- A question leaves the model as it was.
   asked : (c : Call) → releasedBy c ≡ 0 → (y : Model × Answer) → Told m y → Called m c (y .0) (Yes (y .1))
   asked c quiet y t =
-      rw (t .sameModel) record { keeps = keeps-self sound; holds = λ n place. rw (quiet, t .noShape) }
+      rw (t .sameModel) record {
+        keeps = keeps-self sound;
+        holds = λ n place. rw (quiet, t .noShape);
+        enough = λ n place. rw (quiet, not-counted n place) (omega arith);
+      }
 
   pub performed : (c : Call) (y : Model × Answer) → perform m c ≡ ok y → Called m c (y .0) (Yes (y .1))
   unfolding perform
@@ -178,6 +199,7 @@ module _ (m : Model) (sound : Sound m) where
         keeps = release-keeps m sound n (acts .isUsed);
         holds = λ k place.
             rw (not-counted k place) (omega (arith, release-holds m sound n (acts .isUsed) (acts .isHeld) k));
+        enough = λ k place. omega (arith, release-holds m sound n (acts .isUsed) (acts .isHeld) k);
       }
   performed (previous n) y e =
       let (may, e₁) = guard-passed NoShape (unheld m n) _ y e in
@@ -191,7 +213,11 @@ module _ (m : Model) (sound : Sound m) where
           gives (previous n) refl (λ k u. u) Nothing (m, p) (previous-gives n u q) y (rw q at e)
   performed sweep y e =
       rw (← same-given e)
-      record { keeps = swept-keeps m sound; holds = λ n place. rw (sweep-holds m sound n) }
+      record {
+        keeps = swept-keeps m sound;
+        holds = λ n place. rw (sweep-holds m sound n);
+        enough = λ n place. rw (not-counted n place) (omega arith);
+      }
   performed (ask n q) y e = asked (ask n q) refl y (question-told m n q y e)
 
   -- Refused or not, a call leaves a sound model, keeps what it is not made to change and counts its holds.
@@ -201,7 +227,8 @@ module _ (m : Model) (sound : Sound m) where
     where
       go : (g : Got (Model × Answer)) → perform m c ≡ g → Called m c (settle m g .0) (settle m g .1)
       go (ok y) e = performed c y e
-      go (refused r) e = record { keeps = keeps-self sound; holds = λ n place. refl }
+      go (refused r) e =
+          record { keeps = keeps-self sound; holds = λ n place. refl; enough = λ n place. omega arith }
 
 -- "every call on a sound image" leaves "a sound image", over the model.
 pub call-sound : (m : Model) (c : Call) → Sound m → Sound (call m c .0)
@@ -227,24 +254,31 @@ module _ (m : Model) (sound : Sound m) (n : ℕ) (isHeld : HeldAt m n) where
   pub sweep-keeps-held : Kept m (call m sweep .0) n
   sweep-keeps-held = called m sound sweep .keeps .keeps n held-stays
 
-  module _ (h : SharedAt m n) where
-    untouched : (k : ℕ) → Untouched m k n
-    untouched k =
-        (held-used, λ r e. not-both (rw (← e) at r) (shared-not-unique (shapeAt m n) h))
+  -- and no call a held shape, but the unique that it is made to change.
+  untouched : (k : ℕ) → (eqb n k && unique (shapeAt m n)) ≡ false → Untouched m k n
+  untouched k other = (
+    held-used,
+    λ r q. not-both (both-and (eq-eqb n k q) (ap (λ (x : ℕ). unique (shapeAt m x)) q ∙ r)) other,
+  )
 
-    shared-kept : (c : Call) → KeptBy m c n
-    shared-kept newRoot = held-used
-    shared-kept newUnique = held-used
-    shared-kept (insertKey k x a) = untouched k
-    shared-kept (changeKey k x a) = untouched k
-    shared-kept (removeKey k x) = untouched k
-    shared-kept (changePrototype k p) = untouched k
-    shared-kept (hold k) = held-used
-    shared-kept (release k) = held-used
-    shared-kept (previous k) = held-used
-    shared-kept sweep = held-stays
-    shared-kept (ask k q) = held-used
+  held-kept : (c : Call) → (eqb n (changedBy c) && unique (shapeAt m n)) ≡ false → KeptBy m c n
+  held-kept newRoot other = held-used
+  held-kept newUnique other = held-used
+  held-kept (insertKey k x a) other = untouched k other
+  held-kept (changeKey k x a) other = untouched k other
+  held-kept (removeKey k x) other = untouched k other
+  held-kept (changePrototype k p) other = untouched k other
+  held-kept (hold k) other = held-used
+  held-kept (release k) other = held-used
+  held-kept (previous k) other = held-used
+  held-kept sweep other = held-stays
+  held-kept (ask k q) other = held-used
 
-    -- and no call a held shared one.
-    pub call-keeps-shared : (c : Call) → Kept m (call m c .0) n
-    call-keeps-shared c = called m sound c .keeps .keeps n (shared-kept c)
+  pub call-keeps-held : (c : Call) → (eqb n (changedBy c) && unique (shapeAt m n)) ≡ false
+      → Kept m (call m c .0) n
+  call-keeps-held c other = called m sound c .keeps .keeps n (held-kept c other)
+
+  -- So none changes a held shared shape.
+  pub call-keeps-shared : SharedAt m n → (c : Call) → Kept m (call m c .0) n
+  call-keeps-shared h c =
+      call-keeps-held c (rw (shared-not-unique (shapeAt m n) h) (and-false (eqb n (changedBy c))))

@@ -1,7 +1,6 @@
--- What all questions of a held shape have in common: they are refused alike, and they change nothing.
+-- A question of a held shape changes nothing and answers no shape.
 -- Assumes nothing.
-use mathlib.Core.Bool.{Bool, true, not}
-use mathlib.Core.List.{List}
+use mathlib.Core.Bool.{not}
 use mathlib.Core.Option.{Option, none, some}
 use mathlib.Core.Path.{_≡_, refl}
 use Prim.Native.Nat.{ℕ}
@@ -11,22 +10,13 @@ use Rattle.store.specs.Model.{Model}
 use Rattle.store.specs.declared.Entry.{Entry}
 use Rattle.rules.specs.declared.Refusal.the-variants.{BadKey, NoShape, OutShort}
 use Rattle.rules.specs.Numbers.{goodKey}
-use Rattle.rules.specs.Refusals.{ok, refused}
+use Rattle.rules.specs.Refusals.{ok}
 use Rattle.rules.specs.Settled.{guard-passed, same-given}
 use Rattle.rules.specs.Sweep.{found, keyList}
 use Rattle.rules.specs.Calls.{Question, lookup, keysInto, prototypeOf, isShared, transitionsOf, propertiesOf}
 use Rattle.rules.specs.Calls.{ask, Answer, unheld, slotOf, perform}
 use Rattle.theorems.specs.Made.{entriesAt}
 use Rattle.theorems.specs.Quiet.{grantedBy}
-
--- The key of a lookup is good. The other questions have no key.
-abbrev pub goodQuestion : Question → Bool
-goodQuestion (lookup k) = goodKey k
-goodQuestion (keysInto out) = true
-goodQuestion prototypeOf = true
-goodQuestion isShared = true
-goodQuestion transitionsOf = true
-goodQuestion propertiesOf = true
 
 -- A call has left the model m as it was, and has answered no shape.
 pub record Told (m : Model) (y : Model × Answer) : Type 0 where
@@ -41,17 +31,6 @@ slot-grants none = refl
 slot-grants (some e) = refl
 
 module _ (m : Model) (n : ℕ) where
-  -- A question of a shape that is not held is refused.
-  pub question-refused : (q : Question) → goodQuestion q ≡ true → unheld m n ≡ true
-      → perform m (ask n q) ≡ refused NoShape
-  unfolding perform
-  question-refused (lookup k) good free = rw (good, free)
-  question-refused (keysInto out) good free = rw free
-  question-refused prototypeOf good free = rw free
-  question-refused isShared good free = rw free
-  question-refused transitionsOf good free = rw free
-  question-refused propertiesOf good free = rw free
-
   pub question-told : (q : Question) (y : Model × Answer) → perform m (ask n q) ≡ ok y → Told m y
   unfolding perform
   question-told (lookup k) y e =
