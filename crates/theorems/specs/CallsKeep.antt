@@ -4,7 +4,7 @@
 use mathlib.Core.Bool.{true, false, _&&_, and-false}
 use mathlib.Core.List.{List, []}
 use mathlib.Core.Logic.{_⊎_, inl, inr, _≢_}
-use mathlib.Core.Path.{_≡_, refl, sym, _∙_, ap}
+use mathlib.Core.Path.{_≡_, refl, _∙_, ap}
 use Prim.Native.Nat.{ℕ, _+_, _≤_, _<_}
 use native.Mathlib.Omega.{arith}
 use borrow.Author.Tests.{eqb-false, eq-eqb, ne-eqb}
@@ -31,7 +31,8 @@ use Rattle.theorems.specs.Holds.{release-keeps, grant-keeps}
 use Rattle.theorems.specs.Taken.{bind-passed}
 use Rattle.theorems.specs.HeldChains.{OnHeldChain, held-on-its-chain, swept-keeps}
 use Rattle.theorems.specs.Made.{SharedAt, entriesAt, prototypeAt, transitionsAt}
-use Rattle.theorems.specs.Quiet.{holdsAt, one, grantedBy, grant-holds, release-holds, sweep-holds}
+use Rattle.theorems.specs.Quiet.{holdsAt, one, not-counted, grantedBy, grant-holds, release-holds}
+use Rattle.theorems.specs.Quiet.{sweep-holds}
 use Rattle.theorems.specs.Questions.{Told, told, question-told}
 use Rattle.theorems.specs.Changes.{Untouched, Gives, root-gives, unique-gives, may-act}
 use Rattle.theorems.specs.Granting.{insert-grants, change-grants, removal-grants, prototype-grants}
@@ -99,10 +100,6 @@ pub record Called (m : Model) (c : Call) (j : Model) (r : Reply) : Type 0 where
   pub enough : (n : ℕ) → n ≢ 0 → released n c r ≤ holdsAt m n
 
 -- ## Each call
-
--- Place 0 is none.
-not-counted : (n : ℕ) → n ≢ 0 → one 0 n ≡ 0
-not-counted n place = rw (ne-eqb 0 n (λ e. place (sym e)))
 
 module _ (m : Model) (sound : Sound m) where
   -- "A call that returns a shape adds one hold to it".

@@ -21,7 +21,8 @@ use Rattle.store.specs.declared.Entry.{Entry}
 use Rattle.store.specs.declared.Edge.{Edge}
 use Rattle.rules.specs.declared.ChangeTransitionAction.{ChangeTransitionAction}
 use Rattle.rules.specs.Shapes.{entry}
-use Rattle.rules.specs.Steps.{Step, insert}
+use Rattle.rules.specs.Trails.{trail}
+use Rattle.rules.specs.Steps.{chain, Step, insert}
 use Rattle.rules.specs.Sound.{soundModel, soundWords}
 use Rattle.rules.specs.Sweep.{found, swept}
 use Rattle.rules.specs.Calls.{Call, newRoot, insertKey, removeKey, changePrototype, ask, lookup, propertiesOf}
@@ -139,10 +140,11 @@ abbrev countAnswered : Reply → ℕ
 countAnswered r = last (fourNumbers r) 0
 
 same-prototype-counts-follows : PrototypeDoes → countAnswered (call family (changePrototype 4 0) .1) ≡ 4
-unfolding answers
+unfolding answers trail chain
 same-prototype-counts-follows does =
     let did = does family family-sound _ _ _ _ 4 0 refl in
-    did .answered .itsCount ∙ did .ofShared refl .below (λ z. omega arith) .1
+    let t = did .ofShared refl .below (λ z. omega arith) in
+    did .answered .sharedCount (t .isShared) .0 ∙ ap length (t .itsTrail)
 
 same-prototype-counts : countAnswered (call family (changePrototype 4 0) .1) ≡ 4
 unfolding answers

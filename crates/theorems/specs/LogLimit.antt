@@ -21,8 +21,8 @@ use Rattle.rules.specs.Numbers.{goodKey}
 use Rattle.rules.specs.Shapes.{has, attributesIn}
 use Rattle.rules.specs.Settled.{guard-passed}
 use Rattle.rules.specs.Steps.{Step, insert, configure, prototype}
-use Rattle.rules.specs.Calls.{Call, insertKey, changeKey, removeKey, changePrototype, ask, isShared}
-use Rattle.rules.specs.Calls.{transitionsOf, Given, Done, Number, Yes, unheld, perform, call, callOn, format}
+use Rattle.rules.specs.Calls.{Call, insertKey, changeKey, removeKey, changePrototype, ask, transitionsOf, Given}
+use Rattle.rules.specs.Calls.{Done, Number, Yes, unheld, perform, call, callOn, format}
 use Rattle.theorems.specs.Facts.{Sound, used-place}
 use Rattle.theorems.specs.Made.{entriesAt}
 use Rattle.theorems.specs.SameTrail.{trail-length, trail-contents}
@@ -35,8 +35,15 @@ use Rattle.theorems.specs.TrailLaws.{without-no-longer, widened-no-longe
 use Rattle.theorems.specs.CallersLog.{Logged, noTrail, trailed, Line, line, Log, _∈_, written, fromShape}
 use Rattle.theorems.specs.CallersLog.{source, leading, logAfter, logOf, heard}
 use Rattle.theorems.specs.LogRight.{line-held}
-use Rattle.theorems.specs.Demand3Heard.{AnswersTrail, Demand3Heard, right-over, right-says, now-sound}
+use Rattle.theorems.specs.Demand3Heard.{AnswersLine, Demand3Heard, right-over, right-says, now-sound}
 use Rattle.theorems.specs.Demand3Heard.{now-right}
+
+-- ## Statements
+
+-- The log l has a line of the number x that says e, and the shape answers so in the words ws: with its trail, or
+-- as a unique (`AnswersLine`).
+abbrev pub Logs : (ws : List ℕ) (l : Log) (x : ℕ) → Logged → Type 0
+Logs ws l x e = (line x e ∈ l .lines) × AnswersLine ws x e
 
 -- The calls that take one step from the shape n with the trail ts.
 pub data TakesStep (n : ℕ) (ts : List Step) : Call → Step → Type 0 where
@@ -44,6 +51,8 @@ pub data TakesStep (n : ℕ) (ts : List Step) : Call → Step → Type 0 where
   rebasing : (p : ℕ) → TakesStep n ts (changePrototype n p) (prototype p)
   changing : (k a : ℕ) → sameWidth (attributesIn k (entriesOfTrail ts)) a ≡ true
       → TakesStep n ts (changeKey n k a) (configure k a)
+
+-- ## The log after any calls
 
 -- What is written of a number is one of its lines.
 written-in : (xs : List Line) (n r : ℕ) (ts : List Step) → written xs n ≡ trailed r ts
@@ -81,8 +90,9 @@ module _ (l : Limits) (ws : List ℕ) (e : format l ws .1 ≡ Yes Done) (cs : Li
       let few : shapeAt m n .transitions ≢ 1024 = λ full. isHeld (s .limits .unheld full) in
       omega arith
 
-  -- ## One call more, from a shape with the trail ts that answers the shape x
+  -- ## One call more
 
+  -- The log says of the number n that its shape has the trail ts; a call on it is answered by the shape x.
   module _ (n r : ℕ) (ts : List Step) (logged : written (log .lines) n ≡ trailed r ts) where
     logged-in : line n (trailed r ts) ∈ log .lines
     logged-in = written-in (log .lines) n r ts logged
@@ -130,17 +140,12 @@ module _ (l : Limits) (ws : List ℕ) (e : format l ws .1 ≡ Yes Done) (cs : Li
         new-in : (entry : Logged) → leading f (trailed r ts) ≡ entry → line x entry ∈ next .lines
         new-in entry its = rw (given, by, logged, ne-eqb x 0 place, its) (inl refl)
 
-        leads-shared : length (f ts) ≢ 1024
-            → (line x (trailed r (f ts)) ∈ next .lines) × AnswersTrail after x (f ts)
-        leads-shared below =
-            let there = new-in (trailed r (f ts)) (rw (ne-eqb (length (f ts)) 1024 below)) in
-            (there, next-heard .answers (line x (trailed r (f ts))) there)
+        -- What the log then says of x is right.
+        leads : (entry : Logged) → leading f (trailed r ts) ≡ entry → Logs after next x entry
+        leads entry its = let there = new-in entry its in (there, next-heard .answers (line x entry) there)
 
-        leads-unique : length (f ts) ≡ 1024
-            → (line x noTrail ∈ next .lines) × (callOn after (ask x isShared) .1 ≡ Yes (Number 0))
-        leads-unique full =
-            let there = new-in noTrail (rw (eq-eqb (length (f ts)) 1024 full)) in
-            (there, next-heard .answers (line x noTrail) there)
+        leads-shared : length (f ts) ≢ 1024 → Logs after next x (trailed r (f ts))
+        leads-shared below = leads (trailed r (f ts)) (rw (ne-eqb (length (f ts)) 1024 below))
 
     -- ## One step more
 
@@ -183,9 +188,9 @@ module _ (l : Limits) (ws : List ℕ) (e : format l ws .1 ≡ Yes Done) (cs : Li
       long : length (by .f ts) ≡ length ts + 1
       long = ap length (by .itsTrail) ∙ length-append ts (t ∷ [])
 
-      -- Up to 1,023 steps the answer has the trail with that step,
+      -- Up to 1,023 steps, the answer has the trail with that step,
       pub step-shared : length ts < 1023
-          → (line x (trailed r (ts ++ t ∷ [])) ∈ next c given .lines) × AnswersTrail (after c given) x (ts ++ t ∷ [])
+          → Logs (after c given) (next c given) x (trailed r (ts ++ t ∷ []))
       step-shared below =
           let fits : length (by .f ts) ≢ 1024 = λ full. omega (arith, long, full) in
           rw (by .itsTrail) at (leads-shared c given (by .f) (by .isSource) (by .isHeld) fits)
@@ -197,15 +202,17 @@ module _ (l : Limits) (ws : List ℕ) (e : format l ws .1 ≡ Yes Done) (cs : Li
           rw (length-append ts (t ∷ []), its) at told
 
       -- and one step more leads to a unique.
-      pub step-1024 : length ts ≡ 1023
-          → (line x noTrail ∈ next c given .lines) × (callOn (after c given) (ask x isShared) .1 ≡ Yes (Number 0))
-      step-1024 its = leads-unique c given (by .f) (by .isSource) (by .isHeld) (omega (arith, long))
+      pub step-1024 : length ts ≡ 1023 → Logs (after c given) (next c given) x noTrail
+      step-1024 its =
+          let full : length (by .f ts) ≡ 1024 = omega (arith, long) in
+          leads c given (by .f) (by .isSource) (by .isHeld) noTrail (rw (eq-eqb (length (by .f ts)) 1024 full))
 
     -- ## A removal and a change of width
 
+    -- They lead to no longer trail, and so never to a unique.
     pub removal-shared : (k : ℕ) {x : ℕ} {action : ChangeTransitionAction} {count : ℕ}
-        → (given : callOn now (removeKey n k) .1 ≡ Yes (Given x action count)) → let us = trailWithout ts k in
-        (line x (trailed r us) ∈ next (removeKey n k) given .lines) × AnswersTrail (after (removeKey n k) given) x us
+        → (given : callOn now (removeKey n k) .1 ≡ Yes (Given x action count))
+        → Logs (after (removeKey n k) given) (next (removeKey n k) given) x (trailed r (trailWithout ts k))
     removal-shared k given =
         let short = without-no-longer ts k in
         let did = removal-does (parse now) m-sound n k (says (removeKey n k) given) in
@@ -214,9 +221,8 @@ module _ (l : Limits) (ws : List ℕ) (e : format l ws .1 ≡ Yes Done) (cs : Li
 
     pub width-shared : (k a : ℕ) → sameWidth (attributesIn k (entriesOfTrail ts)) a ≡ false
         → {x : ℕ} {action : ChangeTransitionAction} {count : ℕ}
-        → (given : callOn now (changeKey n k a) .1 ≡ Yes (Given x action count)) → let us = trailWidened ts k a in
-        (line x (trailed r us) ∈ next (changeKey n k a) given .lines)
-        × AnswersTrail (after (changeKey n k a) given) x us
+        → (given : callOn now (changeKey n k a) .1 ≡ Yes (Given x action count))
+        → Logs (after (changeKey n k a) given) (next (changeKey n k a) given) x (trailed r (trailWidened ts k a))
     unfolding trailChanged
     width-shared k a other given =
         let e = says (changeKey n k a) given in
