@@ -36,7 +36,7 @@ use Rattle.theorems.specs.CallersLog.{Logged, noTrail, trailed, Line, li
 use Rattle.theorems.specs.CallersLog.{source, leading, logAfter, logOf, heard}
 use Rattle.theorems.specs.LogRight.{line-held}
 use Rattle.theorems.specs.Demand3Heard.{AnswersLine, Demand3Heard, right-over, right-says, now-sound}
-use Rattle.theorems.specs.Demand3Heard.{now-right}
+use Rattle.theorems.specs.Demand3Heard.{log-right}
 
 -- ## Statements
 
@@ -81,7 +81,7 @@ module _ (l : Limits) (ws : List ℕ) (e : format l ws .1 ≡ Yes Done) (cs : Li
   trail-limit x there r ts its =
       let m = parse now in
       let n = x .number in
-      let right = now-right l ws e cs in
+      let right = log-right l ws e cs in
       let isHeld = line-held m m-sound log right x there in
       let (h, told, _) = rw its at (right .each x there) in
       let s = m-sound .shapes n (held-used m m-sound n isHeld) in
@@ -106,7 +106,7 @@ module _ (l : Limits) (ws : List ℕ) (e : format l ws .1 ≡ Yes Done) (cs : Li
     unfolding perform
     changed-holds k a said =
         let m = parse now in
-        let (h, told, _) = now-right l ws e cs .each (line n (trailed r ts)) logged-in in
+        let (h, told, _) = log-right l ws e cs .each (line n (trailed r ts)) logged-in in
         let es = trail-contents m m-sound n h .itsEntries ∙ ap entriesOfTrail told in
         let (_, e₁) = guard-passed BadKey (not (goodKey k)) _ _ (performs m m-sound (changeKey n k a) said) in
         let (_, e₂) = guard-passed BadAttributes (not (goodAttributes a)) _ _ e₁ in
@@ -128,7 +128,7 @@ module _ (l : Limits) (ws : List ℕ) (e : format l ws .1 ≡ Yes Done) (cs : Li
       next-heard : Demand3Heard after next
       next-heard =
           let s = now-sound l ws e cs in
-          right-says after (sound-call now c s .isSound) next (right-over now (c ∷ []) log s (now-right l ws e cs))
+          right-says after (sound-call now c s .isSound) next (right-over now (c ∷ []) log s (log-right l ws e cs))
 
       module _ (f : List Step → List Step) (by : source c ≡ fromShape n f)
           (isHeld : HeldAt (call (parse now) c .0) x) where
