@@ -8,7 +8,7 @@ use replies::sweep_numbers;
 ghost use mathlib.Core.Path.{_≡_};
 ghost use mathlib.Core.Bool.{true};
 ghost use Rattle.rules.specs.Sound.{sound};
-ghost use Rattle.rules.specs.Calls.{insertKey, sweep, lookup, callOn};
+ghost use Rattle.rules.specs.Calls.{insertKey, sweep, ask, lookup, callOn};
 ghost use Rattle.shapes_c.specs.Told.{Tells};
 
 #[no_mangle]
@@ -30,7 +30,7 @@ pub extern "C" fn inner_insert(
 pub extern "C" fn inner_lookup(image: &[u32], shape: u32, key: u32) -> ReplyNumbers
     requires { ⌜ sound (now image) ≡ true ⌝ }
     ensures { λ n. ⌜
-        Tells (now (image .entry)) n (callOn (now (image .entry)) (lookup shape key))
+        Tells (now (image .entry)) n (callOn (now (image .entry)) (ask shape (lookup key)))
         ⌝ }
 {
     lookup_numbers(questions::lookup(image, shape, key))

@@ -17,9 +17,10 @@ use Rattle.rules.specs.Shapes.{entries}
 use Rattle.rules.specs.Refusals.{Got, ok, refused}
 use Rattle.rules.specs.Sweep.{keyList}
 use Rattle.rules.specs.Calls.{Answer, Given, Freed, Done, Found, NotFound, Listed, Number, No, Yes, unheld}
-use Rattle.rules.specs.Calls.{perform}
+use Rattle.rules.specs.Calls.{Question, ask, perform}
 use Rattle.rules.specs.Calls.{lookup, keysInto, prototypeOf, isShared, transitionsOf, propertiesOf}
 use Rattle.rules.specs.Replies.{Answers}
+use Rattle.theorems.specs.Unheld.{goodQuestion, unheld-refused}
 use Rattle.property_table.specs.Copies.{entriesIn}
 use Rattle.property_table.specs.Lookup.{lookedUp, looked-held, looked-absent}
 use Rattle.property_table.specs.declared.Property.{Property}
@@ -31,34 +32,13 @@ module _ (ws : List ℕ) (n : ℕ) where
   abbrev m : Model
   m = parse ws
 
-  pub bad-key : (k : ℕ) → goodKey k ≡ false → Answers ws ws (perform m (lookup n k)) (No BadKey)
+  pub bad-key : (k : ℕ) → goodKey k ≡ false → Answers ws ws (perform m (ask n (lookup k))) (No BadKey)
   unfolding perform
   bad-key k bad = rw bad (refl, refl)
 
-  module _ (none : unheld m n ≡ true) where
-    pub lookup-refused : (k : ℕ) → goodKey k ≡ true → Answers ws ws (perform m (lookup n k)) (No NoShape)
-    unfolding perform
-    lookup-refused k good = rw (good, none) (refl, refl)
-
-    pub keys-refused : (out : List ℕ) → Answers ws ws (perform m (keysInto n out)) (No NoShape)
-    unfolding perform
-    keys-refused out = rw none (refl, refl)
-
-    pub prototype-refused : Answers ws ws (perform m (prototypeOf n)) (No NoShape)
-    unfolding perform
-    prototype-refused = rw none (refl, refl)
-
-    pub is-shared-refused : Answers ws ws (perform m (isShared n)) (No NoShape)
-    unfolding perform
-    is-shared-refused = rw none (refl, refl)
-
-    pub transitions-refused : Answers ws ws (perform m (transitionsOf n)) (No NoShape)
-    unfolding perform
-    transitions-refused = rw none (refl, refl)
-
-    pub properties-refused : Answers ws ws (perform m (propertiesOf n)) (No NoShape)
-    unfolding perform
-    properties-refused = rw none (refl, refl)
+  pub no-shape : unheld m n ≡ true → (q : Question) → goodQuestion q ≡ true
+      → Answers ws ws (perform m (ask n q)) (No NoShape)
+  no-shape none q good = rw (unheld-refused m n none (ask n q) refl good) (refl, refl)
 
 -- ## Answers
 
@@ -72,14 +52,14 @@ module _ {ws : List ℕ} (formed : Formed ws) (n : ℕ) (may : unheld (parse ws)
 
     pub lookup-finds : {p : Property} → lookedUp k 0 es ≡ At p
         → let s = p .slot in
-        Answers ws ws (perform model (lookup n k)) (Yes (Found (s .index .0) (s .attributes .0)))
+        Answers ws ws (perform model (ask n (lookup k))) (Yes (Found (s .index .0) (s .attributes .0)))
     unfolding perform
     lookup-finds looked =
         let h = looked-held {k = k} {es = es} looked in
         rw (good, may, h .answer, h .slot) (unchanged formed, refl)
 
     pub lookup-finds-nothing : lookedUp k 0 es ≡ Nothing
-        → Answers ws ws (perform model (lookup n k)) (Yes NotFound)
+        → Answers ws ws (perform model (ask n (lookup k))) (Yes NotFound)
     unfolding perform
     lookup-finds-nothing looked =
         let h = looked-absent {k = k} {es = es} looked in
@@ -91,34 +71,34 @@ module _ {ws : List ℕ} (formed : Formed ws) (n : ℕ) (may : unheld (parse ws)
       ks = keyList (take (s .properties) (entriesIn ws (s .table)))
 
       pub out-short : length out < length ks
-          → Answers ws ws (perform model (keysInto n out)) (No OutShort)
+          → Answers ws ws (perform model (ask n (keysInto out))) (No OutShort)
       unfolding perform
       out-short short = rw (may, ← read, lt-ltb (length out) (length ks) short) (refl, refl)
 
       pub keys-listed : length ks ≤ length out → {count : ℕ} {after : List ℕ} → count ≡ length ks
           → after ≡ ks ++ drop (length ks) out
-          → Answers ws ws (perform model (keysInto n out)) (Yes (Listed count after))
+          → Answers ws ws (perform model (ask n (keysInto out))) (Yes (Listed count after))
       unfolding perform
       keys-listed enough many written =
           rw (may, ← read, le-ltb (length out) (length ks) enough)
           (unchanged formed, ap₂ (λ (c : ℕ) (o : List ℕ). Yes (Listed c o)) many written)
 
-    pub prototype-told : Answers ws ws (perform model (prototypeOf n)) (Yes (Number (s .prototype)))
+    pub prototype-told : Answers ws ws (perform model (ask n prototypeOf)) (Yes (Number (s .prototype)))
     unfolding perform
     prototype-told = rw (may, ← read) (unchanged formed, refl)
 
-    pub shared-told : s .state ≡ 1 → Answers ws ws (perform model (isShared n)) (Yes (Number 1))
+    pub shared-told : s .state ≡ 1 → Answers ws ws (perform model (ask n isShared)) (Yes (Number 1))
     unfolding perform
     shared-told z = rw (may, ← read, eq-eqb (s .state) 1 z) (unchanged formed, refl)
 
-    pub unique-told : (s .state ≡ 1 → ⊥) → Answers ws ws (perform model (isShared n)) (Yes (Number 0))
+    pub unique-told : (s .state ≡ 1 → ⊥) → Answers ws ws (perform model (ask n isShared)) (Yes (Number 0))
     unfolding perform
     unique-told z = rw (may, ← read, ne-eqb (s .state) 1 z) (unchanged formed, refl)
 
-    pub transitions-told : Answers ws ws (perform model (transitionsOf n)) (Yes (Number (s .transitions)))
+    pub transitions-told : Answers ws ws (perform model (ask n transitionsOf)) (Yes (Number (s .transitions)))
     unfolding perform
     transitions-told = rw (may, ← read) (unchanged formed, refl)
 
-    pub properties-told : Answers ws ws (perform model (propertiesOf n)) (Yes (Number (s .properties)))
+    pub properties-told : Answers ws ws (perform model (ask n propertiesOf)) (Yes (Number (s .properties)))
     unfolding perform
     properties-told = rw (may, ← read) (unchanged formed, refl)

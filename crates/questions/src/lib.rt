@@ -12,9 +12,8 @@ use store::image::get_shape;
 use store::rows::wide;
 ghost use Rattle.store.specs.Layout.{parse};
 ghost use Rattle.store.specs.Image.{Formed};
-ghost use Rattle.rules.specs.Calls.{perform, lookup, keysInto, prototypeOf, isShared};
-ghost use Rattle.rules.specs.Calls.{transitionsOf};
-ghost use Rattle.rules.specs.Calls.{propertiesOf};
+ghost use Rattle.rules.specs.Calls.{ask, lookup, keysInto, prototypeOf, isShared, transitionsOf, propertiesOf};
+ghost use Rattle.rules.specs.Calls.{perform};
 ghost use Rattle.rules.specs.Replies.{Answers, lookupReply, keysReply, KeptIfRefused, numberReply};
 ghost use Rattle.theorems.specs.Facts.{Sound};
 
@@ -24,7 +23,7 @@ pub fn lookup(image: &[u32], n: u32, key: u32) -> LookupReply
     requires { ⌜ Sound (parse (now image)) ⌝ }
     ensures { λ r. ⌜
         Answers (now (image .entry)) (now (image .entry))
-        (perform (parse (now (image .entry))) (lookup n key)) (lookupReply r)
+        (perform (parse (now (image .entry))) (ask n (lookup key))) (lookupReply r)
         ⌝ }
 {
     if !good_key(key) {
@@ -48,7 +47,7 @@ pub fn keys(image: &[u32], n: u32, out: &mut [u32]) -> KeysReply
     requires { ⌜ Sound (parse (now image)) ⌝ }
     ensures { λ r. ⌜
         Answers (now (image .entry)) (now (image .entry))
-        (perform (parse (now (image .entry))) (keysInto n (now (out .entry))))
+        (perform (parse (now (image .entry))) (ask n (keysInto (now (out .entry)))))
         (keysReply (now (out .exit)) r)
         ⌝ }
     ensures { λ r. ⌜ KeptIfRefused r (now (out .entry)) (now (out .exit)) ⌝ }
@@ -67,7 +66,7 @@ pub fn prototype(image: &[u32], n: u32) -> NumberReply
     requires { ⌜ Formed (now image) ⌝ }
     ensures { λ r. ⌜
         Answers (now (image .entry)) (now (image .entry))
-        (perform (parse (now (image .entry))) (prototypeOf n)) (numberReply r)
+        (perform (parse (now (image .entry))) (ask n prototypeOf)) (numberReply r)
         ⌝ }
 {
     if !is_held(image, n) {
@@ -82,7 +81,7 @@ pub fn is_shared(image: &[u32], n: u32) -> NumberReply
     requires { ⌜ Formed (now image) ⌝ }
     ensures { λ r. ⌜
         Answers (now (image .entry)) (now (image .entry))
-        (perform (parse (now (image .entry))) (isShared n)) (numberReply r)
+        (perform (parse (now (image .entry))) (ask n isShared)) (numberReply r)
         ⌝ }
 {
     if !is_held(image, n) {
@@ -99,7 +98,7 @@ pub fn transition_count(image: &[u32], n: u32) -> NumberReply
     requires { ⌜ Formed (now image) ⌝ }
     ensures { λ r. ⌜
         Answers (now (image .entry)) (now (image .entry))
-        (perform (parse (now (image .entry))) (transitionsOf n)) (numberReply r)
+        (perform (parse (now (image .entry))) (ask n transitionsOf)) (numberReply r)
         ⌝ }
 {
     if !is_held(image, n) {
@@ -113,7 +112,7 @@ pub fn property_count(image: &[u32], n: u32) -> NumberReply
     requires { ⌜ Formed (now image) ⌝ }
     ensures { λ r. ⌜
         Answers (now (image .entry)) (now (image .entry))
-        (perform (parse (now (image .entry))) (propertiesOf n)) (numberReply r)
+        (perform (parse (now (image .entry))) (ask n propertiesOf)) (numberReply r)
         ⌝ }
 {
     if !is_held(image, n) {

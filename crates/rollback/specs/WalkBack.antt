@@ -212,6 +212,6 @@ module _ {m : Model} (sound : Sound m) {n key : ℕ} {from now : List ℕ} {s : 
 pub remembered-few : (m : Model) → Sound m → (n key : ℕ) → SharedAt m n → has key (entriesAt m n) ≡ true
     → length (rollback m n key .newest) + (1 + length (rollback m n key .yielded)) ≤ 1024
 remembered-few m sound n key h holds =
-    let short = rolled-back m sound n key h holds .found .short in
+    let short = rolled-back m sound n key h holds .short in
     let few = sound .shapes n (shared-used (shapeAt m n) h) .words .transitions in
     omega arith

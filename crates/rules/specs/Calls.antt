@@ -27,6 +27,12 @@ use Rattle.rules.specs.Sweep.{held, swept, inUse, found, keyList}
 
 -- ## Calls and answers
 
+-- What is asked of a held shape.
+pub data Question : Type 0 where
+  lookup : (key : ℕ) → Question
+  keysInto : (out : List ℕ) → Question
+  prototypeOf isShared transitionsOf propertiesOf : Question
+
 pub data Call : Type 0 where
   newRoot newUnique : Call
   insertKey changeKey : (shape key attributes : ℕ) → Call
@@ -34,9 +40,7 @@ pub data Call : Type 0 where
   changePrototype : (shape to : ℕ) → Call
   hold release previous : (shape : ℕ) → Call
   sweep : Call
-  lookup : (shape key : ℕ) → Call
-  keysInto : (shape : ℕ) (out : List ℕ) → Call
-  prototypeOf isShared transitionsOf propertiesOf : (shape : ℕ) → Call
+  ask : (shape : ℕ) → Question → Call
 
 pub data Answer : Type 0 where
   Given : (shape : ℕ) → ChangeTransitionAction → (transitions : ℕ) → Answer
@@ -128,24 +132,24 @@ perform m (previous n) = do
   refuse NoShape (unheld m n)
   grantPrevious m (shapeAt m n .previous)
 perform m sweep = let m₁ = swept m in ok (m₁, freed m m₁)
-perform m (lookup n k) = do
+perform m (ask n (lookup k)) = do
   refuse BadKey (not (goodKey k))
   refuse NoShape (unheld m n)
   ok (m, slotOf (found k (entries m (shapeAt m n))))
-perform m (keysInto n out) = let ks = keyList (entries m (shapeAt m n)) in do
+perform m (ask n (keysInto out)) = let ks = keyList (entries m (shapeAt m n)) in do
   refuse NoShape (unheld m n)
   refuse OutShort (ltb (length out) (length ks))
   ok (m, listInto ks out)
-perform m (prototypeOf n) = do
+perform m (ask n prototypeOf) = do
   refuse NoShape (unheld m n)
   ok (m, Number (shapeAt m n .prototype))
-perform m (isShared n) = do
+perform m (ask n isShared) = do
   refuse NoShape (unheld m n)
   ok (m, Number (if shared (shapeAt m n) then 1 else 0))
-perform m (transitionsOf n) = do
+perform m (ask n transitionsOf) = do
   refuse NoShape (unheld m n)
   ok (m, Number (shapeAt m n .transitions))
-perform m (propertiesOf n) = do
+perform m (ask n propertiesOf) = do
   refuse NoShape (unheld m n)
   ok (m, Number (shapeAt m n .properties))
 

@@ -1,14 +1,16 @@
--- A formatted image is sound.
+-- A formatted image is sound, and no shape of it is held.
 -- Assumes nothing.
 use mathlib.Core.Bool.{Bool, true, not, Bool·not-not}
 use mathlib.Core.List.{List}
 use mathlib.Core.Path.{_≡_, refl, sym, _∙_, ap}
 use Prim.Native.Nat.{ℕ, zero, suc}
+use borrow.Author.Tests.{eqb-true}
+use lib.Dec.{eqb}
 use lib.ListN.{replicate}
-use Rattle.store.specs.Lists.{numbered, every}
-use Rattle.store.specs.Model.{Table, free, noShape, noEdge, blank}
+use Rattle.store.specs.Lists.{at, numbered, every}
+use Rattle.store.specs.Model.{Table, free, noShape, noEdge, blank, shapeAt}
 use Rattle.store.specs.Layout.{goodLimits, goodHeader, formattable, formatted, parse, laidOut}
-use Rattle.store.specs.ListLaws.{and-both, _and_, passed-all, every-replicate, every-same}
+use Rattle.store.specs.ListLaws.{and-both, _and_, passed-all, every-place, every-replicate, every-same}
 use Rattle.store.specs.ThereAndBack.{parse-words, blank-words, fits-blank, laid-formatted}
 use Rattle.store.specs.declared.Limits.{Limits}
 use Rattle.store.specs.declared.Shape.{Shape}
@@ -73,19 +75,35 @@ blank-sound l =
     edges : (test : Edge → Bool) → test noEdge ≡ true → every test (replicate (l .E) noEdge) ≡ true
     edges test h = every-replicate test (l .E) noEdge h
 
+formatted-read : (l : Limits) → parse (formatted l) ≡ blank l
+formatted-read l = ap parse (sym (blank-words l)) ∙ parse-words (blank l) (fits-blank l)
+
 -- Zeros after a header with limits in range are sound.
 pub formatted-sound : (l : Limits) → goodLimits l ≡ true → sound (formatted l) ≡ true
 unfolding sound soundWords laidOut
 formatted-sound l good =
-    let read = ap parse (sym (blank-words l)) ∙ parse-words (blank l) (fits-blank l) in
     let laid = and-both (goodHeader (formatted l)) (laid-formatted l) in
-    rw (passed-all (wordSentences (formatted l)) (good and laid .0 and laid .1 and tt), read) (blank-sound l)
+    rw (passed-all (wordSentences (formatted l)) (good and laid .0 and laid .1 and tt), formatted-read l)
+    (blank-sound l)
 
--- "A formatting that is not refused" leaves "a sound image".
-pub format-sound : (l : Limits) (ws : List ℕ) → format l ws .1 ≡ Yes Done → sound (format l ws .0) ≡ true
-unfolding format
-format-sound l ws e =
-    let fit = formattable l ws in
-    let passed = guard-passed BadSize (not fit) _ _ (settle-answered ws (formatting l ws) Done e) in
-    let fits = sym (Bool·not-not fit) ∙ ap not (passed .0) in
-    rw (← (ap (λ x. x .0) (same-given (passed .1)))) (formatted-sound l (and-both (goodLimits l) fits .0))
+module _ (l : Limits) (ws : List ℕ) (e : format l ws .1 ≡ Yes Done) where
+  -- A formatting that is not refused has been of words that fit, and has written zeros after the header.
+  format-writes : (formattable l ws ≡ true) × (format l ws .0 ≡ formatted l)
+  unfolding format
+  format-writes =
+      let fit = formattable l ws in
+      let passed = guard-passed BadSize (not fit) _ _ (settle-answered ws (formatting l ws) Done e) in
+      (sym (Bool·not-not fit) ∙ ap not (passed .0), sym (ap (λ x. x .0) (same-given (passed .1))))
+
+  -- "A formatting that is not refused" leaves "a sound image".
+  pub format-sound : sound (format l ws .0) ≡ true
+  format-sound = rw (format-writes .1) (formatted-sound l (and-both (goodLimits l) (format-writes .0) .0))
+
+  -- No shape of it is held.
+  pub format-unheld : (n : ℕ) → shapeAt (parse (format l ws .0)) n .holds ≡ 0
+  unfolding shapeAt
+  format-unheld n =
+      let none : Shape → Bool = λ s. eqb (s .holds) 0 in
+      let shapes = replicate (l .S) noShape in
+      let each = every-place noShape none shapes refl (every-replicate none (l .S) noShape refl) n in
+      rw (format-writes .1, formatted-read l) (eqb-true (at shapes n noShape .holds) 0 each)

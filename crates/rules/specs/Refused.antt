@@ -17,7 +17,7 @@ use Rattle.rules.specs.Shapes.{withHolds}
 use Rattle.rules.specs.Steps.{putCounter}
 use Rattle.rules.specs.Sound.{soundWords}
 use Rattle.rules.specs.Calls.{Call, newRoot, newUnique, insertKey, changeKey, removeKey}
-use Rattle.rules.specs.Calls.{changePrototype, hold, release, previous, sweep, lookup, keysInto}
+use Rattle.rules.specs.Calls.{changePrototype, hold, release, previous, sweep, ask, lookup, keysInto}
 use Rattle.rules.specs.Calls.{prototypeOf, isShared, transitionsOf, propertiesOf, Freed, Done, Listed}
 use Rattle.rules.specs.Calls.{Number, Reply, No, Yes, call, callOn, after, format}
 use Rattle.rules.specs.Transcript.{Line, _⇒_, answers, gives, at, nowhere, limits, a, b, c}
@@ -79,9 +79,9 @@ badKeys =
     ∷ changeKey 0 badKey 32 ⇒ No BadKey
     ∷ removeKey 2 badKey ⇒ No BadKey
     ∷ removeKey 0 badKey ⇒ No BadKey
-    ∷ lookup 2 badKey ⇒ No BadKey
-    ∷ lookup 0 badKey ⇒ No BadKey
-    ∷ lookup 2 lastKey ⇒ nowhere
+    ∷ ask 2 (lookup badKey) ⇒ No BadKey
+    ∷ ask 0 (lookup badKey) ⇒ No BadKey
+    ∷ ask 2 (lookup lastKey) ⇒ nowhere
     ∷ insertKey 2 lastKey 7 ⇒ gives 4 2
     ∷ changeKey 4 lastKey 5 ⇒ gives 5 3
     ∷ removeKey 5 lastKey ⇒ gives 2 1
@@ -124,12 +124,12 @@ noShapeFirst =
     ∷ changePrototype 3 9 ⇒ No NoShape
     ∷ release 3 ⇒ No NoShape
     ∷ previous 3 ⇒ No NoShape
-    ∷ lookup 3 a ⇒ No NoShape
-    ∷ keysInto 3 [] ⇒ No NoShape
-    ∷ prototypeOf 3 ⇒ No NoShape
-    ∷ isShared 3 ⇒ No NoShape
-    ∷ transitionsOf 3 ⇒ No NoShape
-    ∷ propertiesOf 3 ⇒ No NoShape
+    ∷ ask 3 (lookup a) ⇒ No NoShape
+    ∷ ask 3 (keysInto []) ⇒ No NoShape
+    ∷ ask 3 prototypeOf ⇒ No NoShape
+    ∷ ask 3 isShared ⇒ No NoShape
+    ∷ ask 3 transitionsOf ⇒ No NoShape
+    ∷ ask 3 propertiesOf ⇒ No NoShape
     ∷ []
 
 -- The same calls on a held shape.
@@ -137,11 +137,11 @@ abbrev heldShape : List Line
 heldShape =
     family
     ++ previous 2 ⇒ gives 1 0
-    ∷ lookup 2 a ⇒ at 0 7
-    ∷ prototypeOf 2 ⇒ Yes (Number 0)
-    ∷ isShared 2 ⇒ Yes (Number 1)
-    ∷ transitionsOf 2 ⇒ Yes (Number 1)
-    ∷ propertiesOf 2 ⇒ Yes (Number 1)
+    ∷ ask 2 (lookup a) ⇒ at 0 7
+    ∷ ask 2 prototypeOf ⇒ Yes (Number 0)
+    ∷ ask 2 isShared ⇒ Yes (Number 1)
+    ∷ ask 2 transitionsOf ⇒ Yes (Number 1)
+    ∷ ask 2 propertiesOf ⇒ Yes (Number 1)
     ∷ release 2 ⇒ Yes Done
     ∷ []
 
@@ -176,9 +176,9 @@ absents =
 abbrev outShort : List Line
 outShort =
     family
-    ++ keysInto 2 [] ⇒ No OutShort
-    ∷ keysInto 2 (8 ∷ []) ⇒ Yes (Listed 1 (a ∷ []))
-    ∷ keysInto 1 [] ⇒ Yes (Listed 0 [])
+    ++ ask 2 (keysInto []) ⇒ No OutShort
+    ∷ ask 2 (keysInto (8 ∷ [])) ⇒ Yes (Listed 1 (a ∷ []))
+    ∷ ask 1 (keysInto []) ⇒ Yes (Listed 0 [])
     ∷ []
 
 -- ## 7 to 10: no room
@@ -253,7 +253,7 @@ uniqueAlone = (
       ∷ removeKey 1 b ⇒ gives 1 0
       ∷ removeKey 1 a ⇒ No ShapesFull
       ∷ changePrototype 1 9 ⇒ No ShapesFull
-      ∷ lookup 1 a ⇒ at 0 5
+      ∷ ask 1 (lookup a) ⇒ at 0 5
       ∷ [],
 )
 
@@ -336,12 +336,12 @@ uniqueHeld = (
   withHoldsAt (played (limits 2 2 1 1) (newUnique ⇒ gives 1 0 ∷ [])) 1 65534,
   insertKey 1 a 7 ⇒ gives 1 0
       ∷ changeKey 1 a 5 ⇒ No HoldsFull
-      ∷ lookup 1 a ⇒ at 0 7
+      ∷ ask 1 (lookup a) ⇒ at 0 7
       ∷ insertKey 1 b 7 ⇒ No KeysFull
       ∷ removeKey 1 b ⇒ No HoldsFull
       ∷ removeKey 1 a ⇒ gives 2 0
       ∷ insertKey 1 b 7 ⇒ No HoldsFull
-      ∷ propertiesOf 1 ⇒ Yes (Number 0)
+      ∷ ask 1 propertiesOf ⇒ Yes (Number 0)
       ∷ [],
 )
 
@@ -361,12 +361,12 @@ damaged = (
       ∷ release 2 ⇒ No Damaged
       ∷ previous 2 ⇒ No Damaged
       ∷ sweep ⇒ No Damaged
-      ∷ lookup 0 badKey ⇒ No Damaged
-      ∷ keysInto 2 [] ⇒ No Damaged
-      ∷ prototypeOf 2 ⇒ No Damaged
-      ∷ isShared 2 ⇒ No Damaged
-      ∷ transitionsOf 2 ⇒ No Damaged
-      ∷ propertiesOf 2 ⇒ No Damaged
+      ∷ ask 0 (lookup badKey) ⇒ No Damaged
+      ∷ ask 2 (keysInto []) ⇒ No Damaged
+      ∷ ask 2 prototypeOf ⇒ No Damaged
+      ∷ ask 2 isShared ⇒ No Damaged
+      ∷ ask 2 transitionsOf ⇒ No Damaged
+      ∷ ask 2 propertiesOf ⇒ No Damaged
       ∷ [],
 )
 

@@ -12,7 +12,9 @@ use Rattle.store.specs.declared.Edge.{Edge}
 use Rattle.rules.specs.declared.ChangeTransitionAction.the-variants.{Insert}
 use Rattle.rules.specs.declared.Refusal.the-variants.{NoShape}
 use Rattle.rules.specs.Shapes.{entry}
-use Rattle.rules.specs.Calls.{newRoot, newUnique, insertKey, changeKey, removeKey, changePrototype, hold, release, previous, sweep, lookup, prototypeOf, isShared, propertiesOf, Given, Freed, Done, Number, Reply, No, Yes, after}
+use Rattle.rules.specs.Calls.{newRoot, newUnique, insertKey, changeKey, removeKey, changePrototype, hold}
+use Rattle.rules.specs.Calls.{release, previous, sweep, ask, lookup, prototypeOf, isShared, propertiesOf}
+use Rattle.rules.specs.Calls.{Given, Freed, Done, Number, Reply, No, Yes, after}
 use Rattle.rules.specs.Transcript.{Line, _⇒_, answers, expected, gives, at, small, limits, image, shape, edge, a, b, c, s}
 use Rattle.rules.specs.Refused.{replies}
 
@@ -89,8 +91,8 @@ metAgain = (
   insertKey 1 a 7 ⇒ gives 2 1
       ∷ changeKey 2 a 5 ⇒ gives 4 2
       ∷ insertKey 2 b 7 ⇒ gives 3 2
-      ∷ lookup 3 a ⇒ at 0 7
-      ∷ lookup 3 b ⇒ at 1 7
+      ∷ ask 3 (lookup a) ⇒ at 0 7
+      ∷ ask 3 (lookup b) ⇒ at 1 7
       ∷ [],
   image
       2
@@ -246,10 +248,10 @@ uniques = (
       ∷ insertKey 2 a 14 ⇒ gives 2 0
       ∷ insertKey 2 b 7 ⇒ gives 2 0
       ∷ changePrototype 2 8 ⇒ gives 3 0
-      ∷ lookup 3 b ⇒ at 2 7
+      ∷ ask 3 (lookup b) ⇒ at 2 7
       ∷ removeKey 3 a ⇒ gives 4 0
       ∷ changeKey 4 b 5 ⇒ gives 4 0
-      ∷ lookup 4 b ⇒ at 0 5
+      ∷ ask 4 (lookup b) ⇒ at 0 5
       ∷ changeKey 4 b 14 ⇒ Yes (Given 5 Insert 0)
       ∷ [],
   image
@@ -278,10 +280,10 @@ forgotten =
     ∷ insertKey 2 b 7 ⇒ gives 3 2
     ∷ insertKey 3 c 7 ⇒ gives 4 3
     ∷ changeKey 4 b 5 ⇒ gives 5 4
-    ∷ lookup 5 b ⇒ at 1 5
+    ∷ ask 5 (lookup b) ⇒ at 1 5
     ∷ removeKey 5 a ⇒ gives 7 2
-    ∷ lookup 7 b ⇒ at 0 7
-    ∷ lookup 7 c ⇒ at 1 7
+    ∷ ask 7 (lookup b) ⇒ at 0 7
+    ∷ ask 7 (lookup c) ⇒ at 1 7
     ∷ []
 
 -- The key itself is skipped where it is configured: b to 5, then b goes, and the shape is the one before b.
@@ -303,7 +305,7 @@ firstYield =
     ∷ changeKey 3 b 5 ⇒ gives 4 3
     ∷ changeKey 4 b 4 ⇒ gives 5 4
     ∷ removeKey 5 a ⇒ gives 6 1
-    ∷ lookup 6 b ⇒ at 0 4
+    ∷ ask 6 (lookup b) ⇒ at 0 4
     ∷ []
 
 -- A change of width: base, the newest prototype (8, not 9), the key with new attributes, the yielded keys.
@@ -316,12 +318,12 @@ widened =
     ∷ changePrototype 3 9 ⇒ gives 4 3
     ∷ insertKey 4 b 7 ⇒ gives 5 4
     ∷ changeKey 3 a 14 ⇒ Yes (Given 6 Insert 2)
-    ∷ prototypeOf 6 ⇒ Yes (Number 6)
+    ∷ ask 6 prototypeOf ⇒ Yes (Number 6)
     ∷ changePrototype 5 8 ⇒ gives 7 5
     ∷ changeKey 7 a 14 ⇒ Yes (Given 10 Insert 4)
-    ∷ prototypeOf 10 ⇒ Yes (Number 8)
-    ∷ lookup 10 a ⇒ at 0 14
-    ∷ lookup 10 b ⇒ at 2 7
+    ∷ ask 10 prototypeOf ⇒ Yes (Number 8)
+    ∷ ask 10 (lookup a) ⇒ at 0 14
+    ∷ ask 10 (lookup b) ⇒ at 2 7
     ∷ []
 
 -- A removal goes from the base by the prototype first: to the shape that prototype 9 and then b had made.
@@ -403,7 +405,7 @@ holds =
 abbrev uniqueHolds : List Line
 uniqueHolds =
     newUnique ⇒ gives 1 0
-    ∷ isShared 1 ⇒ Yes (Number 0)
+    ∷ ask 1 isShared ⇒ Yes (Number 0)
     ∷ previous 1 ⇒ gives 0 0
     ∷ insertKey 1 a 7 ⇒ gives 1 0
     ∷ release 1 ⇒ Yes Done
@@ -412,7 +414,7 @@ uniqueHolds =
     ∷ release 1 ⇒ No NoShape
     ∷ sweep ⇒ Yes (Freed 1 1)
     ∷ newRoot ⇒ gives 1 0
-    ∷ propertiesOf 1 ⇒ Yes (Number 0)
+    ∷ ask 1 propertiesOf ⇒ Yes (Number 0)
     ∷ []
 
 abbrev pub transcripts : List (List Line)

@@ -10,7 +10,7 @@ use rules::SweepReply;
 pub use soundness::is_sound;
 use store::Limits;
 ghost use Rattle.rules.specs.Calls.{newRoot, newUnique, insertKey, changeKey, removeKey, changePrototype};
-ghost use Rattle.rules.specs.Calls.{hold, release, previous, sweep, lookup, keysInto, prototypeOf};
+ghost use Rattle.rules.specs.Calls.{hold, release, previous, sweep, ask, lookup, keysInto, prototypeOf};
 ghost use Rattle.rules.specs.Calls.{isShared, transitionsOf, propertiesOf};
 ghost use Rattle.rules.specs.Replies.{shapeReply, doneReply, sweepReply, lookupReply, keysReply};
 ghost use Rattle.rules.specs.Replies.{KeptIfRefused, numberReply};
@@ -140,7 +140,7 @@ pub fn sweep(image: &mut [u32]) -> SweepReply
 
 pub fn lookup(image: &[u32], shape: u32, key: u32) -> LookupReply
     ensures { λ r. ⌜
-        Calls (now (image .entry)) (now (image .entry)) (lookup shape key) (lookupReply r)
+        Calls (now (image .entry)) (now (image .entry)) (ask shape (lookup key)) (lookupReply r)
         ⌝ }
 {
     if !is_sound(image) {
@@ -151,7 +151,7 @@ pub fn lookup(image: &[u32], shape: u32, key: u32) -> LookupReply
 
 pub fn prototype(image: &[u32], shape: u32) -> NumberReply
     ensures { λ r. ⌜
-        Calls (now (image .entry)) (now (image .entry)) (prototypeOf shape) (numberReply r)
+        Calls (now (image .entry)) (now (image .entry)) (ask shape prototypeOf) (numberReply r)
         ⌝ }
 {
     if !is_sound(image) {
@@ -162,7 +162,7 @@ pub fn prototype(image: &[u32], shape: u32) -> NumberReply
 
 pub fn is_shared(image: &[u32], shape: u32) -> NumberReply
     ensures { λ r. ⌜
-        Calls (now (image .entry)) (now (image .entry)) (isShared shape) (numberReply r)
+        Calls (now (image .entry)) (now (image .entry)) (ask shape isShared) (numberReply r)
         ⌝ }
 {
     if !is_sound(image) {
@@ -173,7 +173,7 @@ pub fn is_shared(image: &[u32], shape: u32) -> NumberReply
 
 pub fn transition_count(image: &[u32], shape: u32) -> NumberReply
     ensures { λ r. ⌜
-        Calls (now (image .entry)) (now (image .entry)) (transitionsOf shape) (numberReply r)
+        Calls (now (image .entry)) (now (image .entry)) (ask shape transitionsOf) (numberReply r)
         ⌝ }
 {
     if !is_sound(image) {
@@ -184,7 +184,7 @@ pub fn transition_count(image: &[u32], shape: u32) -> NumberReply
 
 pub fn property_count(image: &[u32], shape: u32) -> NumberReply
     ensures { λ r. ⌜
-        Calls (now (image .entry)) (now (image .entry)) (propertiesOf shape) (numberReply r)
+        Calls (now (image .entry)) (now (image .entry)) (ask shape propertiesOf) (numberReply r)
         ⌝ }
 {
     if !is_sound(image) {
@@ -196,7 +196,7 @@ pub fn property_count(image: &[u32], shape: u32) -> NumberReply
 // The list is written at the front of `out`; the rest of it stays.
 pub fn keys(image: &[u32], shape: u32, out: &mut [u32]) -> KeysReply
     ensures { λ r. ⌜
-        Calls (now (image .entry)) (now (image .entry)) (keysInto shape (now (out .entry)))
+        Calls (now (image .entry)) (now (image .entry)) (ask shape (keysInto (now (out .entry))))
         (keysReply (now (out .exit)) r)
         ⌝ }
     ensures { λ r. ⌜ KeptIfRefused r (now (out .entry)) (now (out .exit)) ⌝ }

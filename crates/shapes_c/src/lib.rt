@@ -11,7 +11,7 @@ use rules::Refusal;
 use store::Limits;
 ghost use mathlib.Core.Path.{_≡_};
 ghost use Rattle.rules.specs.Calls.{newRoot, newUnique, insertKey, changeKey, removeKey, changePrototype};
-ghost use Rattle.rules.specs.Calls.{hold, release, previous, sweep, lookup, keysInto, prototypeOf};
+ghost use Rattle.rules.specs.Calls.{hold, release, previous, sweep, ask, lookup, keysInto, prototypeOf};
 ghost use Rattle.rules.specs.Calls.{isShared, transitionsOf, propertiesOf, callOn, format};
 ghost use Rattle.shapes_c.specs.Told.{Tells, limitsAre, tested, listedIn};
 
@@ -136,7 +136,7 @@ pub extern "C" fn shapes_sweep(image: &mut [u32]) -> ReplyNumbers
 #[no_mangle]
 pub extern "C" fn shapes_lookup(image: &[u32], shape: u32, key: u32) -> ReplyNumbers
     ensures { λ n. ⌜
-        Tells (now (image .entry)) n (callOn (now (image .entry)) (lookup shape key))
+        Tells (now (image .entry)) n (callOn (now (image .entry)) (ask shape (lookup key)))
         ⌝ }
 {
     lookup_numbers(shapes::lookup(image, shape, key))
@@ -145,11 +145,11 @@ pub extern "C" fn shapes_lookup(image: &[u32], shape: u32, key: u32) -> ReplyNum
 #[no_mangle]
 pub extern "C" fn shapes_keys(image: &[u32], shape: u32, out: &mut [u32]) -> ReplyNumbers
     ensures { λ n. ⌜
-        Tells (now (image .entry)) n (callOn (now (image .entry)) (keysInto shape (now (out .entry))))
+        Tells (now (image .entry)) n (callOn (now (image .entry)) (ask shape (keysInto (now (out .entry)))))
         ⌝ }
     ensures { λ n. ⌜
         now (out .exit)
-        ≡ listedIn (now (out .entry)) (callOn (now (image .entry)) (keysInto shape (now (out .entry))))
+        ≡ listedIn (now (out .entry)) (callOn (now (image .entry)) (ask shape (keysInto (now (out .entry)))))
         ⌝ }
 {
     keys_numbers(shapes::keys(image, shape, out))
@@ -158,7 +158,7 @@ pub extern "C" fn shapes_keys(image: &[u32], shape: u32, out: &mut [u32]) -> Rep
 #[no_mangle]
 pub extern "C" fn shapes_prototype(image: &[u32], shape: u32) -> ReplyNumbers
     ensures { λ n. ⌜
-        Tells (now (image .entry)) n (callOn (now (image .entry)) (prototypeOf shape))
+        Tells (now (image .entry)) n (callOn (now (image .entry)) (ask shape prototypeOf))
         ⌝ }
 {
     question_numbers(shapes::prototype(image, shape))
@@ -167,7 +167,7 @@ pub extern "C" fn shapes_prototype(image: &[u32], shape: u32) -> ReplyNumbers
 #[no_mangle]
 pub extern "C" fn shapes_is_shared(image: &[u32], shape: u32) -> ReplyNumbers
     ensures { λ n. ⌜
-        Tells (now (image .entry)) n (callOn (now (image .entry)) (isShared shape))
+        Tells (now (image .entry)) n (callOn (now (image .entry)) (ask shape isShared))
         ⌝ }
 {
     question_numbers(shapes::is_shared(image, shape))
@@ -176,7 +176,7 @@ pub extern "C" fn shapes_is_shared(image: &[u32], shape: u32) -> ReplyNumbers
 #[no_mangle]
 pub extern "C" fn shapes_transition_count(image: &[u32], shape: u32) -> ReplyNumbers
     ensures { λ n. ⌜
-        Tells (now (image .entry)) n (callOn (now (image .entry)) (transitionsOf shape))
+        Tells (now (image .entry)) n (callOn (now (image .entry)) (ask shape transitionsOf))
         ⌝ }
 {
     question_numbers(shapes::transition_count(image, shape))
@@ -185,7 +185,7 @@ pub extern "C" fn shapes_transition_count(image: &[u32], shape: u32) -> ReplyNum
 #[no_mangle]
 pub extern "C" fn shapes_property_count(image: &[u32], shape: u32) -> ReplyNumbers
     ensures { λ n. ⌜
-        Tells (now (image .entry)) n (callOn (now (image .entry)) (propertiesOf shape))
+        Tells (now (image .entry)) n (callOn (now (image .entry)) (ask shape propertiesOf))
         ⌝ }
 {
     question_numbers(shapes::property_count(image, shape))

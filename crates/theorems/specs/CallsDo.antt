@@ -9,7 +9,7 @@ use native.Mathlib.Omega.{arith}
 use borrow.Author.Tests.{eqb-true, eqb-false}
 use lib.Dec.{eqb, leb}
 use lib.ListN.{length}
-use Rattle.store.specs.Model.{Model, shapeAt, putShape}
+use Rattle.store.specs.Model.{Model, freeShape, shapeAt, putShape}
 use Rattle.store.specs.PlaceLaws.{put-here}
 use Rattle.store.specs.ListLaws.{and-both, both-and, Decided, either}
 use Rattle.store.specs.declared.Shape.{Shape}
@@ -23,9 +23,8 @@ use Rattle.rules.specs.Refusals.{Got, ok}
 use Rattle.rules.specs.Settled.{guard-passed, same-given, call-answered}
 use Rattle.rules.specs.Steps.{Step, Placed, fresh}
 use Rattle.rules.specs.Trails.{trail, root}
-use Rattle.rules.specs.Calls.{Call, newRoot, newUnique, insertKey, changeKey, removeKey, changePrototype}
-use Rattle.rules.specs.Calls.{hold, previous, Answer, Given, Reply, Yes, unheld, grant, grantPrevious}
-use Rattle.rules.specs.Calls.{perform, call}
+use Rattle.rules.specs.Calls.{Call, newRoot, newUnique, insertKey, changeKey, removeKey, changePrototype, hold}
+use Rattle.rules.specs.Calls.{previous, Answer, Given, Reply, Yes, unheld, grant, grantPrevious, perform, call}
 use Rattle.rules.specs.InUse.{shared-used}
 use Rattle.theorems.specs.Facts.{Used, Sound, unique-used}
 use Rattle.theorems.specs.Entries.{keys, laid-without-absent}
@@ -34,11 +33,10 @@ use Rattle.theorems.specs.Holds.{shape-put, grant-keeps}
 use Rattle.theorems.specs.Taken.{bind-passed}
 use Rattle.theorems.specs.Uniques.{OldOne}
 use Rattle.theorems.specs.Made.{SharedAt, entriesAt, prototypeAt, previousAt, transitionsAt, Contents}
-use Rattle.theorems.specs.Made.{own-good}
-use Rattle.theorems.specs.Made.{kept-contents}
+use Rattle.theorems.specs.Made.{own-good, kept-contents}
 use Rattle.theorems.specs.SameTrail.{trail-length}
 use Rattle.theorems.specs.Outcomes.{Outcome, byInsert, byChange, byRemoval, byPrototype}
-use Rattle.theorems.specs.Changes.{Gives, Limited, root-gives, unique-gives, may-act}
+use Rattle.theorems.specs.Changes.{Gives, Traced, Limited, root-gives, unique-gives, may-act}
 use Rattle.theorems.specs.Granting.{Granting, insert-grants, change-grants, removal-grants}
 use Rattle.theorems.specs.Granting.{prototype-grants}
 use Rattle.theorems.specs.CallsKeep.{HeldAt, here-gives, previous-gives}
@@ -72,7 +70,7 @@ pub record Changed (m : Model) (n : ℕ) (o : Outcome) (ks : List ℕ)
   pub ofUnique : unique (shapeAt m n) ≡ true
       → (unique (shapeAt j c) ≡ true) × OldOne (o .same) j n (o .left) c
   -- a shared shape gives a shared one, or at 1,024 transitions a unique with the same entries and prototype
-  pub ofShared : SharedAt m n → Limited (o .transitions) (o .trail) (root m n) j c
+  pub ofShared : SharedAt m n → Limited (o .trail) (root m n) j c
 
 -- What is said of the previous of the shape at n in m: "0, no hold, at a root or unique".
 pub record Previous (m : Model) (n : ℕ) (j : Model) (c : ℕ) (given : ChangeTransitionAction) (count : ℕ)
@@ -96,18 +94,18 @@ record Granted (x : Placed) (action : ChangeTransitionAction)
 
 module _ {j : Model} where
   -- What was said of the shapes before the hold is said of them still.
-  same-limited : {i : Model} {c total r : ℕ} {ts : List Step} → Kept i j c → Limited total ts r i c
-      → Limited total ts r j c
+  pub same-traced : {i : Model} {c r : ℕ} {ts : List Step} → Kept i j c → Traced ts r i c → Traced ts r j c
+  same-traced k t =
+      record {
+        isShared = kept-shared (t .isShared) k;
+        itsTrail = k .sameTrail ∙ t .itsTrail;
+        itsRoot = kept-root k ∙ t .itsRoot;
+      }
+
+  same-limited : {i : Model} {c r : ℕ} {ts : List Step} → Kept i j c → Limited ts r i c → Limited ts r j c
   same-limited k l =
       record {
-        itsLength = l .itsLength;
-        below = λ few.
-            let (h, count, its, from) = l .below few in (
-              kept-shared h k,
-              ap (λ (s : Shape). s .transitions) (k .sameCore) ∙ count,
-              k .sameTrail ∙ its,
-              kept-root k ∙ from,
-            );
+        below = λ few. same-traced k (l .below few);
         full = λ z. ap unique (k .sameCore) ∙ l .full z;
       }
 
@@ -201,22 +199,25 @@ module _ (m : Model) (sound : Sound m) {j : Model} {c : ℕ} {given : ChangeTran
       let done = call-answered m k (Given c given count) (ap (λ (y : Model × Reply). y .1) e) .1 in
       rw (ap (λ (y : Model × Reply). y .0) e) at done
 
-  -- A new root has no keys and no prototype, and it is a shared shape without transitions.
+  -- A new root has no keys and no prototype, and it is a shared shape without transitions, where none was.
   pub root-does : Says m newRoot j c given count
-      → Answered j c given count Nothing [] 0 × SharedAt j c × (count ≡ 0)
+      → Answered j c given count Nothing [] 0
+      × SharedAt j c
+      × (count ≡ 0)
+      × (freeShape (shapeAt m c) ≡ true)
   unfolding perform
   root-does e =
       let rule = fresh m rootShape [] in
       let b = bind-passed rule (grant Nothing) (j, Given c given count) (performs newRoot e) in
       let x = b .result in
-      let (g, isARoot) = root-gives m sound x (b .gave) in
+      let (g, isARoot, wasFree) = root-gives m sound x (b .gave) in
       let t = grants x g Nothing (b .below) in
       let k = kept x g Nothing t in
       let a = rw (t .its) at (answers x g Nothing t) in
       let root : isRoot (shapeAt j c) ≡ true = rw (← t .its) (ap isRoot (k .sameCore) ∙ isARoot) in
       let h = and-both (shared (shapeAt j c)) root .0 in
       let none = t .keeps .isSound .shapes c (shared-used (shapeAt j c) h) .words .root root .transitions in
-      (a, h, a .itsCount ∙ none)
+      (a, h, a .itsCount ∙ none, rw (t .its) at wasFree)
 
   -- A new unique has no keys and no prototype, and it is unique.
   pub unique-does : Says m newUnique j c given count

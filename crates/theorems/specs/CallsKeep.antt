@@ -1,33 +1,28 @@
 -- Every call on a sound model leaves a sound model, and keeps all shapes in use but those that it is made to
 -- change: the unique that it acts on, and what a sweep frees. Holds change by what the reply says.
 -- Assumes nothing.
-use mathlib.Core.Bool.{true, false, not}
+use mathlib.Core.Bool.{true, false, _&&_, and-false}
 use mathlib.Core.List.{List, []}
-use mathlib.Core.Option.{Option, none, some}
 use mathlib.Core.Logic.{_⊎_, inl, inr, _≢_}
-use mathlib.Core.Path.{_≡_, refl, sym, ap}
-use Prim.Native.Nat.{ℕ, _+_, _<_}
+use mathlib.Core.Path.{_≡_, refl, _∙_, ap}
+use Prim.Native.Nat.{ℕ, _+_, _≤_, _<_}
 use native.Mathlib.Omega.{arith}
-use borrow.Author.Tests.{eqb-false, ne-eqb}
-use lib.Dec.{eqb, ltb}
-use lib.ListN.{length}
+use borrow.Author.Tests.{eqb-false, eq-eqb, ne-eqb}
+use lib.Dec.{eqb}
 use Rattle.store.specs.Model.{Model, freeShape, shapeAt}
 use Rattle.store.specs.ListLaws.{both-and, Decided, either, not-both}
 use Rattle.store.specs.declared.Shape.{Shape}
 use Rattle.store.specs.declared.Entry.{Entry}
 use Rattle.rules.specs.declared.ChangeTransitionAction.{ChangeTransitionAction}
 use Rattle.rules.specs.declared.ChangeTransitionAction.the-variants.{Nothing}
-use Rattle.rules.specs.declared.Refusal.the-variants.{BadKey, NoShape, OutShort}
-use Rattle.rules.specs.Numbers.{goodKey}
+use Rattle.rules.specs.declared.Refusal.the-variants.{NoShape}
 use Rattle.rules.specs.Shapes.{attributesIn, shared, unique, rootShape, uniqueShape}
 use Rattle.rules.specs.Refusals.{Got, ok, refused, _>>=_}
 use Rattle.rules.specs.Settled.{guard-passed, same-given}
 use Rattle.rules.specs.Steps.{Placed, fresh}
-use Rattle.rules.specs.Sweep.{found, keyList}
-use Rattle.rules.specs.Calls.{Call, newRoot, newUnique, insertKey, changeKey, removeKey, changePrototype}
-use Rattle.rules.specs.Calls.{hold, release, previous, sweep, lookup, keysInto, prototypeOf, isShared}
-use Rattle.rules.specs.Calls.{transitionsOf, propertiesOf, Answer, Given, Reply, No, Yes, unheld, grant}
-use Rattle.rules.specs.Calls.{slotOf, actionFor, grantPrevious, perform, settle, call}
+use Rattle.rules.specs.Calls.{Call, newRoot, newUnique, insertKey, changeKey, removeKey, changePrototype, hold}
+use Rattle.rules.specs.Calls.{release, previous, sweep, ask, Answer, Given, Reply, No, Yes, unheld, grant}
+use Rattle.rules.specs.Calls.{actionFor, grantPrevious, perform, settle, call}
 use Rattle.rules.specs.InUse.{shared-used}
 use Rattle.theorems.specs.Facts.{Used, Sound, shared-not-unique}
 use Rattle.theorems.specs.FactsSound.{facts-sound}
@@ -36,7 +31,9 @@ use Rattle.theorems.specs.Holds.{release-keeps, grant-keeps}
 use Rattle.theorems.specs.Taken.{bind-passed}
 use Rattle.theorems.specs.HeldChains.{OnHeldChain, held-on-its-chain, swept-keeps}
 use Rattle.theorems.specs.Made.{SharedAt, entriesAt, prototypeAt, transitionsAt}
-use Rattle.theorems.specs.Quiet.{holdsAt, one, grantedBy, grant-holds, release-holds, sweep-holds}
+use Rattle.theorems.specs.Quiet.{holdsAt, one, not-counted, grantedBy, grant-holds, release-holds}
+use Rattle.theorems.specs.Quiet.{sweep-holds}
+use Rattle.theorems.specs.Questions.{Told, told, question-told}
 use Rattle.theorems.specs.Changes.{Untouched, Gives, root-gives, unique-gives, may-act}
 use Rattle.theorems.specs.Granting.{insert-grants, change-grants, removal-grants, prototype-grants}
 
@@ -55,12 +52,7 @@ KeptBy m (hold n) = Used m
 KeptBy m (release n) = Used m
 KeptBy m (previous n) = Used m
 KeptBy m sweep = OnHeldChain m
-KeptBy m (lookup n k) = Used m
-KeptBy m (keysInto n out) = Used m
-KeptBy m (prototypeOf n) = Used m
-KeptBy m (isShared n) = Used m
-KeptBy m (transitionsOf n) = Used m
-KeptBy m (propertiesOf n) = Used m
+KeptBy m (ask n q) = Used m
 
 -- The place that a call takes a hold from, 0 for none.
 abbrev pub releasedBy : Call → ℕ
@@ -74,12 +66,21 @@ releasedBy (hold n) = 0
 releasedBy (release n) = n
 releasedBy (previous n) = 0
 releasedBy sweep = 0
-releasedBy (lookup n k) = 0
-releasedBy (keysInto n out) = 0
-releasedBy (prototypeOf n) = 0
-releasedBy (isShared n) = 0
-releasedBy (transitionsOf n) = 0
-releasedBy (propertiesOf n) = 0
+releasedBy (ask n q) = 0
+
+-- The shape that a call changes, 0 for none.
+abbrev pub changedBy : Call → ℕ
+changedBy newRoot = 0
+changedBy newUnique = 0
+changedBy (insertKey n k a) = n
+changedBy (changeKey n k a) = n
+changedBy (removeKey n k) = n
+changedBy (changePrototype n p) = n
+changedBy (hold n) = 0
+changedBy (release n) = 0
+changedBy (previous n) = 0
+changedBy sweep = 0
+changedBy (ask n q) = 0
 
 -- What the reply to a call says of the holds of the place n: one is granted if the answer gives n, and one is
 -- released if the call is `release n`; neither if the call is refused.
@@ -95,12 +96,10 @@ released n c (Yes a) = one (releasedBy c) n
 pub record Called (m : Model) (c : Call) (j : Model) (r : Reply) : Type 0 where
   pub keeps : Keeps m j (KeptBy m c)
   pub holds : (n : ℕ) → n ≢ 0 → holdsAt j n + released n c r ≡ holdsAt m n + granted n r
+  -- a hold that is released was there
+  pub enough : (n : ℕ) → n ≢ 0 → released n c r ≤ holdsAt m n
 
 -- ## Each call
-
--- Place 0 is none.
-not-counted : (n : ℕ) → n ≢ 0 → one 0 n ≡ 0
-not-counted n place = rw (ne-eqb 0 n (λ e. place (sym e)))
 
 module _ (m : Model) (sound : Sound m) where
   -- "A call that returns a shape adds one hold to it".
@@ -115,6 +114,7 @@ module _ (m : Model) (sound : Sound m) where
         holds = λ n place.
             rw (quiet, not-counted n place)
             (omega (arith, grant-holds (x .0) s (x .1) (g .isUsed) action y e n, g .sameHolds n));
+        enough = λ n place. rw (quiet, not-counted n place) (omega arith);
       }
 
   -- The same of what a rule gives.
@@ -155,14 +155,13 @@ module _ (m : Model) (sound : Sound m) where
       go (inr r) = absurd (eqb-false p 0 notRoot (sound .shapes n u .words .unique r .previous))
 
   -- A question leaves the model as it was.
-  asked : (c : Call) → releasedBy c ≡ 0 → (a : Answer) → grantedBy a ≡ 0
-      → (y : Model × Answer) → ok (m, a) ≡ ok y → Called m c (y .0) (Yes (y .1))
-  asked c quiet a nowhere y e =
-      rw (← same-given e) record { keeps = keeps-self sound; holds = λ n place. rw (quiet, nowhere) }
-
-  pub slot-grants : (o : Option Entry) → grantedBy (slotOf o) ≡ 0
-  slot-grants none = refl
-  slot-grants (some e) = refl
+  asked : (c : Call) → releasedBy c ≡ 0 → (y : Model × Answer) → Told m y → Called m c (y .0) (Yes (y .1))
+  asked c quiet y t =
+      rw (t .sameModel) record {
+        keeps = keeps-self sound;
+        holds = λ n place. rw (quiet, t .noShape);
+        enough = λ n place. rw (quiet, not-counted n place) (omega arith);
+      }
 
   pub performed : (c : Call) (y : Model × Answer) → perform m c ≡ ok y → Called m c (y .0) (Yes (y .1))
   unfolding perform
@@ -197,6 +196,7 @@ module _ (m : Model) (sound : Sound m) where
         keeps = release-keeps m sound n (acts .isUsed);
         holds = λ k place.
             rw (not-counted k place) (omega (arith, release-holds m sound n (acts .isUsed) (acts .isHeld) k));
+        enough = λ k place. omega (arith, release-holds m sound n (acts .isUsed) (acts .isHeld) k);
       }
   performed (previous n) y e =
       let (may, e₁) = guard-passed NoShape (unheld m n) _ y e in
@@ -204,29 +204,18 @@ module _ (m : Model) (sound : Sound m) where
     where
       go : Used m n → grantPrevious m (shapeAt m n .previous) ≡ ok y → Decided (eqb (shapeAt m n .previous) 0)
           → Called m (previous n) (y .0) (Yes (y .1))
-      go u e (inl q) = asked (previous n) refl (Given 0 Nothing 0) refl y (rw q at e)
+      go u e (inl q) = asked (previous n) refl y (told m (Given 0 Nothing 0) refl y (rw q at e))
       go u e (inr q) =
           let p = shapeAt m n .previous in
           gives (previous n) refl (λ k u. u) Nothing (m, p) (previous-gives n u q) y (rw q at e)
   performed sweep y e =
       rw (← same-given e)
-      record { keeps = swept-keeps m sound; holds = λ n place. rw (sweep-holds m sound n) }
-  performed (lookup n k) y e =
-      let (key, e₁) = guard-passed BadKey (not (goodKey k)) _ y e in
-      let o = found k (entriesAt m n) in
-      asked (lookup n k) refl (slotOf o) (slot-grants o) y (guard-passed NoShape (unheld m n) _ y e₁ .1)
-  performed (keysInto n out) y e =
-      let (may, e₁) = guard-passed NoShape (unheld m n) _ y e in
-      let short = ltb (length out) (length (keyList (entriesAt m n))) in
-      asked (keysInto n out) refl _ refl y (guard-passed OutShort short _ y e₁ .1)
-  performed (prototypeOf n) y e =
-      asked (prototypeOf n) refl _ refl y (guard-passed NoShape (unheld m n) _ y e .1)
-  performed (isShared n) y e =
-      asked (isShared n) refl _ refl y (guard-passed NoShape (unheld m n) _ y e .1)
-  performed (transitionsOf n) y e =
-      asked (transitionsOf n) refl _ refl y (guard-passed NoShape (unheld m n) _ y e .1)
-  performed (propertiesOf n) y e =
-      asked (propertiesOf n) refl _ refl y (guard-passed NoShape (unheld m n) _ y e .1)
+      record {
+        keeps = swept-keeps m sound;
+        holds = λ n place. rw (sweep-holds m sound n);
+        enough = λ n place. rw (not-counted n place) (omega arith);
+      }
+  performed (ask n q) y e = asked (ask n q) refl y (question-told m n q y e)
 
   -- Refused or not, a call leaves a sound model, keeps what it is not made to change and counts its holds.
   pub called : (c : Call) → Called m c (call m c .0) (call m c .1)
@@ -235,7 +224,8 @@ module _ (m : Model) (sound : Sound m) where
     where
       go : (g : Got (Model × Answer)) → perform m c ≡ g → Called m c (settle m g .0) (settle m g .1)
       go (ok y) e = performed c y e
-      go (refused r) e = record { keeps = keeps-self sound; holds = λ n place. refl }
+      go (refused r) e =
+          record { keeps = keeps-self sound; holds = λ n place. refl; enough = λ n place. omega arith }
 
 -- "every call on a sound image" leaves "a sound image", over the model.
 pub call-sound : (m : Model) (c : Call) → Sound m → Sound (call m c .0)
@@ -261,29 +251,31 @@ module _ (m : Model) (sound : Sound m) (n : ℕ) (isHeld : HeldAt m n) where
   pub sweep-keeps-held : Kept m (call m sweep .0) n
   sweep-keeps-held = called m sound sweep .keeps .keeps n held-stays
 
-  module _ (h : SharedAt m n) where
-    untouched : (k : ℕ) → Untouched m k n
-    untouched k =
-        (held-used, λ r e. not-both (rw (← e) at r) (shared-not-unique (shapeAt m n) h))
+  -- and no call a held shape, but the unique that it is made to change.
+  untouched : (k : ℕ) → (eqb n k && unique (shapeAt m n)) ≡ false → Untouched m k n
+  untouched k other = (
+    held-used,
+    λ r q. not-both (both-and (eq-eqb n k q) (ap (λ (x : ℕ). unique (shapeAt m x)) q ∙ r)) other,
+  )
 
-    shared-kept : (c : Call) → KeptBy m c n
-    shared-kept newRoot = held-used
-    shared-kept newUnique = held-used
-    shared-kept (insertKey k x a) = untouched k
-    shared-kept (changeKey k x a) = untouched k
-    shared-kept (removeKey k x) = untouched k
-    shared-kept (changePrototype k p) = untouched k
-    shared-kept (hold k) = held-used
-    shared-kept (release k) = held-used
-    shared-kept (previous k) = held-used
-    shared-kept sweep = held-stays
-    shared-kept (lookup k x) = held-used
-    shared-kept (keysInto k out) = held-used
-    shared-kept (prototypeOf k) = held-used
-    shared-kept (isShared k) = held-used
-    shared-kept (transitionsOf k) = held-used
-    shared-kept (propertiesOf k) = held-used
+  held-kept : (c : Call) → (eqb n (changedBy c) && unique (shapeAt m n)) ≡ false → KeptBy m c n
+  held-kept newRoot other = held-used
+  held-kept newUnique other = held-used
+  held-kept (insertKey k x a) other = untouched k other
+  held-kept (changeKey k x a) other = untouched k other
+  held-kept (removeKey k x) other = untouched k other
+  held-kept (changePrototype k p) other = untouched k other
+  held-kept (hold k) other = held-used
+  held-kept (release k) other = held-used
+  held-kept (previous k) other = held-used
+  held-kept sweep other = held-stays
+  held-kept (ask k q) other = held-used
 
-    -- and no call a held shared one.
-    pub call-keeps-shared : (c : Call) → Kept m (call m c .0) n
-    call-keeps-shared c = called m sound c .keeps .keeps n (shared-kept c)
+  pub call-keeps-held : (c : Call) → (eqb n (changedBy c) && unique (shapeAt m n)) ≡ false
+      → Kept m (call m c .0) n
+  call-keeps-held c other = called m sound c .keeps .keeps n (held-kept c other)
+
+  -- So none changes a held shared shape.
+  pub call-keeps-shared : SharedAt m n → (c : Call) → Kept m (call m c .0) n
+  call-keeps-shared h c =
+      call-keeps-held c (rw (shared-not-unique (shapeAt m n) h) (and-false (eqb n (changedBy c))))

@@ -4,7 +4,7 @@ use mathlib.Core.Bool.{true, false, not}
 use mathlib.Core.List.{List, [], _++_}
 use mathlib.Core.Logic.{inl, inr, _≢_}
 use mathlib.Core.Path.{_≡_, refl, sym, _∙_, ap}
-use Prim.Native.Nat.{ℕ, _+_, _<_}
+use Prim.Native.Nat.{ℕ, _<_}
 use native.Mathlib.Omega.{arith}
 use borrow.Author.Tests.{eqb-true, eqb-false, not-true, not-false}
 use lib.Dec.{eqb}
@@ -19,28 +19,25 @@ use Rattle.rules.specs.Numbers.{goodKey}
 use Rattle.rules.specs.Shapes.{has, attributesIn, unique, isRoot, entries, rootShape, uniqueShape}
 use Rattle.rules.specs.Refusals.{Got, ok, _>>=_}
 use Rattle.rules.specs.Settled.{same-given}
-use Rattle.rules.specs.Steps.{Step, insert, prototype, Placed, step, removeShared, changeShared, fresh}
-use Rattle.rules.specs.Steps.{limited}
+use Rattle.rules.specs.Steps.{Step, insert, prototype, Placed, step, removeShared, changeShared, fresh, limited}
 use Rattle.rules.specs.Unique.{insertUnique, removeUnique, changeUnique, prototypeUnique, inserted, changed}
 use Rattle.rules.specs.Unique.{removed, rebased}
 use Rattle.rules.specs.Sweep.{held}
 use Rattle.rules.specs.Calls.{unheld}
 use Rattle.rules.specs.InUse.{shared-used}
 use Rattle.rules.specs.Trails.{trail, root}
-use Rattle.theorems.specs.Facts.{Used, GoodTable, Sound, unique-used, shared-not-unique}
-use Rattle.theorems.specs.Facts.{shared-or-unique}
+use Rattle.theorems.specs.Facts.{Used, GoodTable, Sound, unique-used, shared-not-unique, shared-or-unique}
 use Rattle.theorems.specs.Frame.{Keeps, keeps-self, keeps-fewer, keeps-again, kept-used}
 use Rattle.theorems.specs.Taken.{bind-passed}
 use Rattle.theorems.specs.Grow.{FreshShape, Fresh, fresh-keeps, fresh-root, fresh-unique}
 use Rattle.theorems.specs.Uniques.{OldOne, Acted, insert-unique-keeps, remove-unique-keeps}
 use Rattle.theorems.specs.Uniques.{change-unique-keeps, prototype-unique-keeps}
-use Rattle.theorems.specs.Made.{SharedAt, entriesAt, prototypeAt, transitionsAt, Contents}
-use Rattle.theorems.specs.Made.{own-good, own-count}
+use Rattle.theorems.specs.Made.{SharedAt, entriesAt, prototypeAt, transitionsAt, Contents, own-good}
+use Rattle.theorems.specs.Made.{own-count}
 use Rattle.theorems.specs.InTurn.{stepsEntries, stepsPrototype}
 use Rattle.theorems.specs.SameTrail.{trail-length}
 use Rattle.theorems.specs.Rollback.{rolled-back}
-use Rattle.theorems.specs.RollbackOfTrails.{base-root, removal-trail, equal-width-trail}
-use Rattle.theorems.specs.RollbackOfTrails.{other-width-trail}
+use Rattle.theorems.specs.RollbackOfTrails.{base-root, removal-trail, equal-width-trail, other-width-trail}
 use Rattle.theorems.specs.Outcomes.{Outcome, byInsert, byChange, byRemoval, byPrototype}
 use Rattle.theorems.specs.Sequence.{Led, step-led, removal-led, change-led, configure-led}
 use Rattle.theorems.specs.Quiet.{SameHolds, Quiet, fresh-holds, step-holds, removal-holds, change-holds}
@@ -62,20 +59,24 @@ pub record Gives (m : Model) (P : ℕ → Type 0) (es : List Entry) (p : ℕ) (y
   pub few : transitionsAt (y .0) (y .1) ≢ 1024
   pub contents : Contents (y .0) (y .1) es p
 
--- "If the final result has 1,024 transitions, a new unique shape .. is returned". The steps lead to `count`
--- transitions, the trail ts and the root r, and the shape at n is the answer.
-pub record Limited (count : ℕ) (ts : List Step) (r : ℕ) (m : Model) (n : ℕ) : Type 0 where
-  pub itsLength : count ≡ length ts
-  pub below : count ≢ 1024
-      → SharedAt m n × (transitionsAt m n ≡ count) × (trail m n ≡ ts) × (root m n ≡ r)
-  pub full : count ≡ 1024 → unique (shapeAt m n) ≡ true
+-- The shape at n is shared, its trail is ts, and its root is r.
+pub record Traced (ts : List Step) (r : ℕ) (m : Model) (n : ℕ) : Type 0 where
+  pub isShared : SharedAt m n
+  pub itsTrail : trail m n ≡ ts
+  pub itsRoot : root m n ≡ r
+
+-- "If the final result has 1,024 transitions, a new unique shape .. is returned". The steps lead to the trail ts
+-- from the root r, and the shape at n is the answer.
+pub record Limited (ts : List Step) (r : ℕ) (m : Model) (n : ℕ) : Type 0 where
+  pub below : length ts ≢ 1024 → Traced ts r m n
+  pub full : length ts ≡ 1024 → unique (shapeAt m n) ≡ true
 
 -- What a change of the shape at n gives.
 pub record ChangesTo (m : Model) (n : ℕ) (o : Outcome) (y : Placed) : Type 0 where
   pub gives : Gives m (Untouched m n) (o .entries) (o .prototype) y
   pub ofUnique : unique (shapeAt m n) ≡ true
       → (unique (shapeAt (y .0) (y .1)) ≡ true) × OldOne (o .same) (y .0) n (o .left) (y .1)
-  pub ofShared : SharedAt m n → Limited (o .transitions) (o .trail) (root m n) (y .0) (y .1)
+  pub ofShared : SharedAt m n → Limited (o .trail) (root m n) (y .0) (y .1)
 
 -- A shape that a call may act on: it is in use, and below 1,024 transitions since it is held.
 pub record MayAct (m : Model) (n : ℕ) : Type 0 where
@@ -105,11 +106,13 @@ module _ (m : Model) (sound : Sound m) where
       }
 
   pub root-gives : (y : Placed) → fresh m rootShape [] ≡ ok y
-      → Gives m (Used m) [] 0 y × (isRoot (shapeAt (y .0) (y .1)) ≡ true)
+      → Gives m (Used m) [] 0 y
+      × (isRoot (shapeAt (y .0) (y .1)) ≡ true)
+      × (freeShape (shapeAt m (y .1)) ≡ true)
   root-gives y e =
       let f = fresh-keeps m sound rootShape [] fresh-root no-entries y e in
       let same = fresh-holds m rootShape [] (λ t. refl) y e in
-      (fresh-gives 0 f (λ t. refl) (λ t. refl) (λ t. refl) same, ap isRoot (f .stands))
+      (fresh-gives 0 f (λ t. refl) (λ t. refl) (λ t. refl) same, ap isRoot (f .stands), f .wasFree)
 
   pub unique-gives : (y : Placed) → fresh m (uniqueShape 0 0 0) [] ≡ ok y
       → Gives m (Used m) [] 0 y × (unique (shapeAt (y .0) (y .1)) ≡ true)
@@ -122,7 +125,7 @@ module _ (m : Model) (sound : Sound m) where
   -- "If the final result has 1,024 transitions, a new unique shape copies its keys and prototype"
   limited-gives : (n : ℕ) → SharedAt m n → (y : Placed) → limited (m, n) ≡ ok y
       → Gives m (Used m) (entriesAt m n) (prototypeAt m n) y
-      × Limited (transitionsAt m n) (trail m n) (root m n) (y .0) (y .1)
+      × Limited (trail m n) (root m n) (y .0) (y .1)
   unfolding limited
   limited-gives n h y e = go (either (eqb (s .transitions) 1024))
     where
@@ -137,18 +140,14 @@ module _ (m : Model) (sound : Sound m) where
 
       go : Decided (eqb (s .transitions) 1024)
           → Gives m (Used m) (entriesAt m n) (prototypeAt m n) y
-          × Limited (transitionsAt m n) (trail m n) (root m n) (y .0) (y .1)
+          × Limited (trail m n) (root m n) (y .0) (y .1)
       go (inl q) =
           let shape = uniqueShape 0 (s .properties) (s .prototype) in
           let f = fresh-keeps m sound shape (entries m s) fit (own-good m sound n u) y (rw q at e) in
           let same = fresh-holds m shape (entries m s) (λ t. refl) y (rw q at e) in
           let full = eqb-true (s .transitions) 1024 q in (
             fresh-gives (s .prototype) f (λ t. refl) (λ t. refl) (λ t. refl) same,
-            record {
-              itsLength = sym (trail-length m n);
-              below = λ few. absurd (few full);
-              full = λ z. ap unique (f .stands);
-            },
+            record { below = λ few. absurd (few (trail-length m n ∙ full)); full = λ z. ap unique (f .stands) },
           )
       go (inr q) =
           let few = eqb-false (s .transitions) 1024 q in
@@ -161,9 +160,8 @@ module _ (m : Model) (sound : Sound m) where
               contents = record { itsEntries = refl; itsPrototype = refl };
             },
             record {
-              itsLength = sym (trail-length m n);
-              below = λ z. (h, refl, refl, refl);
-              full = λ full. absurd (few full);
+              below = λ z. record { isShared = h; itsTrail = refl; itsRoot = refl };
+              full = λ full. absurd (few (sym (trail-length m n) ∙ full));
             },
           )
 
@@ -191,21 +189,18 @@ module _ (m : Model) (sound : Sound m) where
 record Leads (m : Model) (n : ℕ) (o : Outcome) (x : Placed) : Type 0 where
   keeps : Keeps m (x .0) (Used m)
   isShared : SharedAt (x .0) (x .1)
-  itsCount : transitionsAt (x .0) (x .1) ≡ o .transitions
   itsEntries : entriesAt (x .0) (x .1) ≡ o .entries
   itsPrototype : prototypeAt (x .0) (x .1) ≡ o .prototype
   itsTrail : trail (x .0) (x .1) ≡ o .trail
   itsRoot : root (x .0) (x .1) ≡ root m n
 
 led-leads : {m : Model} {b : ℕ} {ts : List Step} {x : Placed} (n : ℕ) (o : Outcome) → Led m b ts x
-    → transitionsAt m b + length ts ≡ o .transitions → stepsEntries ts (entriesAt m b) ≡ o .entries
-    → stepsPrototype ts (prototypeAt m b) ≡ o .prototype → trail m b ++ ts ≡ o .trail
-    → root m b ≡ root m n → Leads m n o x
-led-leads n o l count es p ts r =
+    → stepsEntries ts (entriesAt m b) ≡ o .entries → stepsPrototype ts (prototypeAt m b) ≡ o .prototype
+    → trail m b ++ ts ≡ o .trail → root m b ≡ root m n → Leads m n o x
+led-leads n o l es p ts r =
     record {
       keeps = l .keeps;
       isShared = l .isShared;
-      itsCount = l .itsCount ∙ count;
       itsEntries = l .itsEntries ∙ es;
       itsPrototype = l .itsPrototype ∙ p;
       itsTrail = l .itsTrail ∙ ts;
@@ -230,7 +225,7 @@ module _ (m : Model) (sound : Sound m) where
           };
         };
         ofUnique = λ r. not-both r (shared-not-unique (shapeAt m n) h);
-        ofShared = λ h. rw (l .itsCount, l .itsTrail, l .itsRoot) at limit;
+        ofShared = λ h. rw (l .itsTrail, l .itsRoot) at limit;
       }
 
   -- One law for the four changes of a shape in either state.
@@ -277,7 +272,7 @@ module _ (m : Model) (sound : Sound m) where
         (λ r. insert-unique-keeps m sound n r k a key low absent)
         (λ h x e.
         let l = step-led m sound n h (insert k a) (may .below) (both-and key low, rw absent, tt) x e in
-        led-leads n (byInsert m n k a) l refl refl refl refl refl)
+        led-leads n (byInsert m n k a) l refl refl refl refl)
 
     pub changed-gives : (k a : ℕ) → goodKey k ≡ true → goodAttributes a ≡ true → has k es ≡ true
         → (y : Placed) → changed m n k a ≡ ok y → ChangesTo m n (byChange m n k a) y
@@ -292,12 +287,12 @@ module _ (m : Model) (sound : Sound m) where
             → Decided (sameWidth (attributesIn k es) a) → Leads m n (byChange m n k a) x
         go h x e (inl wide) =
             let l = configure-led m sound n k h holds a key low (may .below) wide x e in
-            led-leads n (byChange m n k a) l (rw wide) (rw wide) refl
+            led-leads n (byChange m n k a) l (rw wide) refl
             (equal-width-trail m sound n k h a wide) refl
         go h x e (inr wide) =
             let l = change-led m sound n k h holds a low wide x e in
             let other = shared-not-unique (shapeAt m n) h in
-            led-leads n (byChange m n k a) l (rw wide) (rw (wide, other))
+            led-leads n (byChange m n k a) l (rw (wide, other))
             (rolled-back m sound n k h holds .change a low .itsPrototype)
             (other-width-trail m sound n k h holds a wide) (base-root m sound n k h holds)
 
@@ -310,7 +305,7 @@ module _ (m : Model) (sound : Sound m) where
         (λ r y e. rw r (remove-unique-keeps m sound n r k y e))
         (λ h x e.
         let other = shared-not-unique (shapeAt m n) h in
-        led-leads n (byRemoval m n k) (removal-led m sound n k h (holds h) x e) refl (rw other)
+        led-leads n (byRemoval m n k) (removal-led m sound n k h (holds h) x e) (rw other)
         (rolled-back m sound n k h (holds h) .removal .itsPrototype)
         (removal-trail m sound n k h (holds h)) (base-root m sound n k h (holds h)))
 
@@ -322,4 +317,4 @@ module _ (m : Model) (sound : Sound m) where
         (λ r. prototype-unique-keeps m sound n r p)
         (λ h x e.
         let l = step-led m sound n h (prototype p) (may .below) (refl, refl, tt) x e in
-        led-leads n (byPrototype m n p) l refl refl refl refl refl)
+        led-leads n (byPrototype m n p) l refl refl refl refl)

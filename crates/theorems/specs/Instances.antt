@@ -1,44 +1,50 @@
--- Six theorems, each with a small instance that computes. Each has a wrong definition (`across/*.edit`) that
--- makes its instance compute to something else. The theorem is false then, since it gives the instance:
--- `..-follows`, which is proved of the theorem's statement and so does not need the theorem.
+-- Five theorems with small instances that compute. Each instance has a wrong definition (`across/*.edit`) that
+-- makes it compute to something else. The theorem is false then, since it gives the instance: `..-follows`,
+-- which is proved of the theorem's statement and so does not need the theorem.
 -- Assumes nothing.
-use mathlib.Core.Bool.{true, true≢false}
-use mathlib.Core.List.{List, [], _∷_, _++_}
-use mathlib.Core.Logic.{inr}
+use mathlib.Core.Bool.{Bool, true, false, true≢false}
+use mathlib.Core.List.{List, [], _∷_}
+use mathlib.Core.Logic.{inl, inr}
 use mathlib.Core.Option.{Option, none, some}
-use mathlib.Core.Path.{_≡_, refl, _∙_, ap}
+use mathlib.Core.Path.{_≡_, refl, sym, _∙_, ap, subst}
 use Prim.Native.Nat.{ℕ}
 use native.Mathlib.Omega.{arith}
+use borrow.Author.Tests.{eqb-true}
+use lib.Dec.{eqb}
+use lib.ListN.{length, replicate}
 use Rattle.store.specs.Lists.{last}
-use Rattle.store.specs.Model.{Model, used, noShape, noEdge, shapeAt, edgeAt}
-use Rattle.store.specs.Layout.{fits}
+use Rattle.store.specs.Model.{Model, used, free, noShape, noEdge, shapeAt, edgeAt}
+use Rattle.store.specs.Layout.{fits, total, rows, flat, words, parse, laidOut}
+use Rattle.store.specs.ListLaws.{Decided, either}
+use Rattle.store.specs.declared.Limits.{Limits}
 use Rattle.store.specs.declared.Entry.{Entry}
 use Rattle.store.specs.declared.Edge.{Edge}
 use Rattle.rules.specs.declared.ChangeTransitionAction.{ChangeTransitionAction}
-use Rattle.rules.specs.Shapes.{entry, has}
-use Rattle.rules.specs.Refusals.{Got, ok, refused}
-use Rattle.rules.specs.Steps.{Step, insert, Placed, step, rollback}
-use Rattle.rules.specs.Sound.{soundModel}
+use Rattle.rules.specs.Shapes.{entry}
+use Rattle.rules.specs.Trails.{trail}
+use Rattle.rules.specs.Steps.{chain, Step, insert}
+use Rattle.rules.specs.Sound.{soundModel, soundWords}
 use Rattle.rules.specs.Sweep.{found, swept}
-use Rattle.rules.specs.Calls.{Call, insertKey, changePrototype, lookup, Found, NotFound, slotOf, Reply, Yes}
-use Rattle.rules.specs.Calls.{call}
+use Rattle.rules.specs.Calls.{Call, newRoot, insertKey, removeKey, changePrototype, ask, lookup, propertiesOf}
+use Rattle.rules.specs.Calls.{Found, NotFound, slotOf, Done, Number, Reply, No, Yes, call, callOn, format}
 use Rattle.rules.specs.Runner.{fourNumbers}
-use Rattle.rules.specs.Transcript.{answers, image, shape, edge, a, b, c, s}
+use Rattle.rules.specs.Transcript.{answers, limits, image, shape, edge, a, b, c, s}
 use Rattle.theorems.specs.Lookups.{OwnEntry, lookup-own}
 use Rattle.theorems.specs.Facts.{Sound}
 use Rattle.theorems.specs.SoundFacts.{sound-facts}
 use Rattle.theorems.specs.FactsSound.{facts-sound}
 use Rattle.theorems.specs.Entries.{keys}
-use Rattle.theorems.specs.Child.{Legal}
-use Rattle.theorems.specs.Stepped.{Took, step-took}
-use Rattle.theorems.specs.Made.{SharedAt, entriesAt}
-use Rattle.theorems.specs.Keys.{stepKeys}
-use Rattle.theorems.specs.Rollback.{keysAt, RolledBack, rolled-back}
+use Rattle.theorems.specs.Made.{entriesAt}
 use Rattle.theorems.specs.Outcomes.{byPrototype}
 use Rattle.theorems.specs.SweepLaws.{EdgeAfterSweep, left, died, gone}
 use Rattle.theorems.specs.HeldChains.{OnHeldChain, Frees, sweep-frees}
+use Rattle.theorems.specs.Quiet.{grantedBy}
 use Rattle.theorems.specs.CallsKeep.{call-sound}
 use Rattle.theorems.specs.CallsDo.{Says, Changed, prototype-does}
+use Rattle.theorems.specs.Demand3.{afterCalls}
+use Rattle.theorems.specs.TrailRules.{trailWithout}
+use Rattle.theorems.specs.CallersLog.{noTrail, trailed, Line, line, _∈_, logOf, heard}
+use Rattle.theorems.specs.Demand3Heard.{AnswersLine, Demand3Heard, demand3-heard}
 
 -- ## Two images
 
@@ -66,29 +72,6 @@ family-sound = sound-facts family refl refl
 abbrev leftAlone : Model
 leftAlone = image 1 (shape 1 1 0 0 0 0 0 1 1 0 ∷ []) (used (entry a 7 0 ∷ []) ∷ []) (edge 1 0 a 7 0 ∷ [])
 
--- ## A step answers a child of the shape
-
-abbrev StepTook : Type 0
-StepTook =
-    (m : Model) → Sound m → (n : ℕ) (t : Step) → Legal m n t → (y : Placed) → step m n t ≡ ok y → Took m n t y
-
--- The previous of the shape that a rule gives.
-abbrev previousOf : Got Placed → ℕ
-previousOf (ok (m, n)) = shapeAt m n .previous
-previousOf (refused r) = 0
-
-answers-a-child-follows : StepTook → previousOf (step family 4 (insert s 7)) ≡ 4
-unfolding answers
-answers-a-child-follows took =
-    let t = insert s 7 in
-    let legal : Legal family 4 t
-    = record { isShared = refl; below = omega arith; may = refl; label = refl } in
-    took family family-sound 4 t legal _ refl .previous
-
-answers-a-child : previousOf (step family 4 (insert s 7)) ≡ 4
-unfolding answers
-answers-a-child = refl
-
 -- ## A call leaves a sound model
 
 abbrev CallSound : Type 0
@@ -101,25 +84,6 @@ insert-leaves-sound-follows keeps =
 insert-leaves-sound : soundModel (call family (insertKey 4 s 7) .0) ≡ true
 unfolding answers
 insert-leaves-sound = refl
-
--- ## The keys after a removed one are yielded
-
-abbrev RollsBack : Type 0
-RollsBack =
-    (m : Model) → Sound m → (n k : ℕ) → SharedAt m n → has k (entriesAt m n) ≡ true
-    → RolledBack m n k (rollback m n k)
-
--- The keys of shape 4 as the rollback before a key tells them: the base's, the key, and those yielded.
-abbrev keysAgain : (key : ℕ) → List ℕ
-keysAgain k = let back = rollback family 4 k in keysAt family (back .base) ++ k ∷ stepKeys (back .yielded)
-
-later-keys-yielded-follows : RollsBack → a ∷ b ∷ c ∷ [] ≡ keysAgain a
-unfolding answers
-later-keys-yielded-follows rolls = rolls family family-sound 4 a refl refl .found .splits
-
-later-keys-yielded : a ∷ b ∷ c ∷ [] ≡ keysAgain a
-unfolding answers
-later-keys-yielded = refl
 
 -- ## A sweep cuts off the edges to freed shapes
 
@@ -145,10 +109,10 @@ edge-to-freed-is-dead = refl
 
 abbrev LookupOwn : Type 0
 LookupOwn =
-    (m : Model) (n k x a : ℕ) → call m (lookup n k) .1 ≡ Yes (Found x a)
+    (m : Model) (n k x a : ℕ) → call m (ask n (lookup k)) .1 ≡ Yes (Found x a)
     → OwnEntry m (shapeAt m n) (entry k a x)
 
-swept-key-not-found-follows : LookupOwn → call leftAlone (lookup 1 a) .1 ≡ Yes NotFound
+swept-key-not-found-follows : LookupOwn → call leftAlone (ask 1 (lookup a)) .1 ≡ Yes NotFound
 unfolding answers
 swept-key-not-found-follows own = go (found a (entriesAt leftAlone 1)) refl
   where
@@ -159,7 +123,7 @@ swept-key-not-found-follows own = go (found a (entriesAt leftAlone 1)) refl
         let noneBelow = own leftAlone 1 a (x .slot .0) (x .attributes) reply .below in
         absurd (omega arith)
 
-swept-key-not-found : call leftAlone (lookup 1 a) .1 ≡ Yes NotFound
+swept-key-not-found : call leftAlone (ask 1 (lookup a)) .1 ≡ Yes NotFound
 unfolding answers
 swept-key-not-found = refl
 
@@ -176,23 +140,150 @@ abbrev countAnswered : Reply → ℕ
 countAnswered r = last (fourNumbers r) 0
 
 same-prototype-counts-follows : PrototypeDoes → countAnswered (call family (changePrototype 4 0) .1) ≡ 4
-unfolding answers
+unfolding answers trail chain
 same-prototype-counts-follows does =
     let did = does family family-sound _ _ _ _ 4 0 refl in
-    did .answered .itsCount ∙ did .ofShared refl .below (λ z. omega arith) .1
+    let t = did .ofShared refl .below (λ z. omega arith) in
+    did .answered .sharedCount (t .isShared) .0 ∙ ap length (t .itsTrail)
 
 same-prototype-counts : countAnswered (call family (changePrototype 4 0) .1) ≡ 4
 unfolding answers
 same-prototype-counts = refl
 
+-- ## Demand 3, as a caller hears it
+
+abbrev HeardOfAll : Type 0
+HeardOfAll =
+    (l : Limits) (ws : List ℕ) → format l ws .1 ≡ Yes Done → (cs : List Call)
+    → let image = format l ws .0 in Demand3Heard (afterCalls image cs) (logOf (heard image cs))
+
+abbrev tiny : Limits
+tiny = limits 6 2 3 5
+
+abbrev blankWords : List ℕ
+blankWords = format tiny (replicate (total tiny) 0) .0
+
+tiny-formatted : format tiny (replicate (total tiny) 0) .1 ≡ Yes Done
+unfolding answers format
+tiny-formatted = refl
+
+-- The lines of a log, one by one.
+abbrev newest : List Line → Line
+newest [] = line 0 noTrail
+newest (x ∷ xs) = x
+
+abbrev older : List Line → List Line
+older [] = []
+older (x ∷ xs) = xs
+
+newest-in : (xs : List Line) (r : ℕ) (ts : List Step) → newest xs .says ≡ trailed r ts → newest xs ∈ xs
+newest-in [] r ts e = let z : _≡_ {A = ℕ} 0 1 = cc in absurd (omega arith)
+newest-in (x ∷ xs) r ts e = inl refl
+
+older-in : (xs : List Line) (r : ℕ) (ts : List Step) → newest (older xs) .says ≡ trailed r ts
+    → newest (older xs) ∈ xs
+older-in [] r ts e = let z : _≡_ {A = ℕ} 0 1 = cc in absurd (omega arith)
+older-in (x ∷ xs) r ts e = inr (newest-in xs r ts e)
+
+-- A root and a child of it have two numbers.
+abbrev rootAndChild : List Call
+rootAndChild = newRoot ∷ insertKey 1 a 7 ∷ []
+
+abbrev twoLines : List Line
+twoLines = logOf (heard blankWords rootAndChild) .lines
+
+abbrev oneNumber : Bool
+oneNumber = eqb (newest twoLines .number) (newest (older twoLines) .number)
+
+two-lines-say :
+    (newest twoLines .says ≡ trailed 0 (insert a 7 ∷ [])) × (newest (older twoLines) .says ≡ trailed 0 [])
+unfolding answers rows flat parse words laidOut soundWords callOn format
+two-lines-say = (refl, refl)
+
+child-has-its-own-number-follows : HeardOfAll → oneNumber ≡ false
+child-has-its-own-number-follows heardOf = go (either oneNumber)
+  where
+    go : Decided oneNumber → oneNumber ≡ false
+    go (inl q) =
+        let d = heardOf tiny (replicate (total tiny) 0) tiny-formatted rootAndChild in
+        let (saysX, saysY) = two-lines-say in
+        let x = newest twoLines in
+        let y = newest (older twoLines) in
+        let inX = newest-in twoLines 0 (insert a 7 ∷ []) saysX in
+        let inY = older-in twoLines 0 [] saysY in
+        let same = d .numbers x y inX inY 0 0 (insert a 7 ∷ []) [] saysX saysY
+        .0 (eqb-true (x .number) (y .number) q) .1 in
+        let long : _≡_ {A = ℕ} 1 0 = ap length same in
+        absurd (omega arith)
+    go (inr q) = q
+
+child-has-its-own-number : oneNumber ≡ false
+unfolding answers rows flat parse words laidOut soundWords callOn format
+child-has-its-own-number = refl
+
+-- A removal of the first of three keys leaves two.
+abbrev removal : List Call
+removal = newRoot ∷ insertKey 1 a 7 ∷ insertKey 2 b 7 ∷ insertKey 3 c 7 ∷ removeKey 4 a ∷ []
+
+abbrev removalLines : List Line
+removalLines = logOf (heard blankWords removal) .lines
+
+abbrev keysAnswered : Reply
+keysAnswered = callOn (afterCalls blankWords removal) (ask (newest removalLines .number) propertiesOf) .1
+
+-- The image before the removal: shapes 1 to 4 have no keys, a, a b and a b c, in one table. What is computed
+-- from it is shown as a number; the same from the words is too long to be shown.
+abbrev threeKeys : Model
+threeKeys =
+    image
+    3
+    (shape 1 1 0 0 0 0 0 1 1 0
+    ∷ shape 1 1 1 0 1 1 0 1 1 0
+    ∷ shape 1 1 2 0 2 2 0 1 1 0
+    ∷ shape 1 1 3 0 3 3 0 1 0 0
+    ∷ noShape
+    ∷ noShape
+    ∷ [])
+    (used (entry a 7 0 ∷ entry b 7 1 ∷ entry c 7 2 ∷ []) ∷ free ∷ [])
+    (edge 1 0 a 7 2 ∷ edge 2 0 b 7 3 ∷ edge 3 0 c 7 4 ∷ noEdge ∷ noEdge ∷ [])
+
+abbrev propertiesGiven : Model × Reply → ℕ
+propertiesGiven (m, No r) = 0
+propertiesGiven (m, Yes x) = shapeAt m (grantedBy x) .properties
+
+abbrev keysLeft : ℕ
+keysLeft = propertiesGiven (call threeKeys (removeKey 4 a))
+
+removal-says : newest removalLines .says ≡ trailed 0 (insert b 7 ∷ insert c 7 ∷ [])
+unfolding answers rows flat parse words laidOut soundWords callOn format trailWithout
+removal-says = refl
+
+removal-answers : keysAnswered ≡ Yes (Number keysLeft)
+unfolding answers rows flat parse words laidOut soundWords callOn format
+removal-answers = refl
+
+number-same : (x y : ℕ) → Yes (Number x) ≡ Yes (Number y) → x ≡ y
+number-same x y e = cc
+
+two-keys-left-follows : HeardOfAll → keysLeft ≡ 2
+two-keys-left-follows heardOf =
+    let d = heardOf tiny (replicate (total tiny) 0) tiny-formatted removal in
+    let x = newest removalLines in
+    let its = d .answers x (newest-in removalLines 0 (insert b 7 ∷ insert c 7 ∷ []) removal-says) in
+    let t = subst (AnswersLine (afterCalls blankWords removal) (x .number)) removal-says its in
+    number-same keysLeft 2 (sym removal-answers ∙ t .properties)
+
+two-keys-left : keysLeft ≡ 2
+unfolding answers rows flat
+two-keys-left = refl
+
 -- ## The statements above are those of the theorems
 
-pub stated : StepTook × CallSound × RollsBack × SweepFrees × LookupOwn × PrototypeDoes
+pub stated : CallSound × SweepFrees × LookupOwn × PrototypeDoes × HeardOfAll
 stated = (
-  step-took,
   call-sound,
-  rolled-back,
   sweep-frees,
   lookup-own,
   λ m sound j c given count. prototype-does m sound,
+  demand3-heard,
 )

@@ -18,7 +18,7 @@ use Rattle.rules.specs.Numbers.{goodKey}
 use Rattle.rules.specs.Refusals.{ok, _>>_, refuse}
 use Rattle.rules.specs.Shapes.{entry, isKey, tableOf, entries}
 use Rattle.rules.specs.Sweep.{found}
-use Rattle.rules.specs.Calls.{lookup, Answer, Found, NotFound, unheld, slotOf, perform, Yes, call}
+use Rattle.rules.specs.Calls.{ask, lookup, Answer, Found, NotFound, unheld, slotOf, perform, Yes, call}
 use Rattle.rules.specs.Settled.{guard-passed, same-given, call-answered}
 
 -- The entry stands in the shape's table, below its property count.
@@ -62,19 +62,19 @@ module _ (m : Model) (s : Shape) (k : ℕ) where
 
 module _ (m : Model) (n k : ℕ) where
   -- Whatever lookup answers is what is found.
-  what-is-found : (a : Answer) → call m (lookup n k) .1 ≡ Yes a
+  what-is-found : (a : Answer) → call m (ask n (lookup k)) .1 ≡ Yes a
       → slotOf (found k (entries m (shapeAt m n))) ≡ a
   unfolding perform
   what-is-found a e =
       let answer : Model × Answer = (m, slotOf (found k (entries m (shapeAt m n)))) in
-      let performed = call-answered m (lookup n k) a e .1 in
+      let performed = call-answered m (ask n (lookup k)) a e .1 in
       let below = refuse NoShape (unheld m n) >> ok answer in
       let good = guard-passed BadKey (not (goodKey k)) below _ performed in
       let held = guard-passed NoShape (unheld m n) (ok answer) _ (good .1) in
       ap (λ (p : Model × Answer). p .1) (same-given (held .1))
 
   -- A slot that lookup answers is that of an entry of the shape's own, with that key,
-  pub lookup-own : (x a : ℕ) → call m (lookup n k) .1 ≡ Yes (Found x a)
+  pub lookup-own : (x a : ℕ) → call m (ask n (lookup k)) .1 ≡ Yes (Found x a)
       → OwnEntry m (shapeAt m n) (entry k a x)
   lookup-own x a h = go (found k (entries m (shapeAt m n))) refl (what-is-found (Found x a) h)
     where
@@ -88,7 +88,7 @@ module _ (m : Model) (n k : ℕ) where
           rw (← key, ← attributes, ← slot) stands
 
   -- and where it answers that there is none, no entry of the shape's own has that key.
-  pub lookup-none : call m (lookup n k) .1 ≡ Yes NotFound
+  pub lookup-none : call m (ask n (lookup k)) .1 ≡ Yes NotFound
       → (e : Entry) → OwnEntry m (shapeAt m n) e → e .key ≢ k
   lookup-none h e =
       none-own m (shapeAt m n) k e (go (found k (entries m (shapeAt m n))) (what-is-found NotFound h))

@@ -19,7 +19,8 @@ use Rattle.theorems.specs.Entries.{keys}
 use Rattle.theorems.specs.Made.{SharedAt, entriesAt}
 use Rattle.theorems.specs.InTurn.{stepsEntries}
 use Rattle.theorems.specs.Keys.{keys-configured, goodInsert}
-use Rattle.theorems.specs.Rollback.{Newest, rolled-back}
+use Rattle.theorems.specs.TrailLaws.{newest-entries}
+use Rattle.theorems.specs.Rollback.{rolled-back}
 use Rattle.theorems.specs.Outcomes.{byChange, byRemoval, changeSteps}
 
 -- ## Entries
@@ -84,12 +85,6 @@ module _ (m : Model) (sound : Sound m) (n k : ℕ) (u : Used m n) where
   abbrev State : Type 0
   State = SharedAt m n ⊎ (unique (shapeAt m n) ≡ true)
 
-  -- The remembered prototype adds no entry.
-  past-newest : (p : ℕ) (ps us : List Step) (fs : List Entry) → Newest m n p ps
-      → stepsEntries (ps ++ us) fs ≡ stepsEntries us fs
-  past-newest p ps us fs (inl (none, same)) = rw none
-  past-newest p ps us fs (inr one) = rw one
-
   module _ (a : ℕ) (low : goodAttributes a ≡ true) (holds : has k es ≡ true) where
     -- A change keeps the keys and their order,
     pub change-keys : keys (byChange m n k a .entries) ≡ keys es
@@ -113,9 +108,12 @@ module _ (m : Model) (sound : Sound m) (n k : ℕ) (u : Used m n) where
             let f = rolled-back m sound n k h holds .found in
             let fs = entriesAt m (b .base) in
             let more = entry k a (widths fs) ∷ [] in
+            let us = insert k a ∷ b .yielded in
+            let past : stepsEntries (b .newest ++ us) fs ≡ stepsEntries us fs
+            = rw (f .newest) (newest-entries (f .later) us fs) in
             let there : has k (fs ++ more) ≡ true
             = rw (any-append (isKey k) fs more, eq-eqb k k refl) (or-true (has k fs)) in
-            ap (attributesIn k) (past-newest (b .base) (b .newest) (insert k a ∷ b .yielded) fs (f .newest))
+            ap (attributesIn k) past
             ∙ inserts-attributes k (b .yielded) (fs ++ more) (f .goodInserts) there
             ∙ new-attributes k fs a (widths fs) (f .lacks)
 

@@ -2,8 +2,7 @@
 -- Assumes nothing.
 use mathlib.Core.Bool.{Bool, true, false, not}
 use mathlib.Core.List.{List, [], _∷_, _++_}
-use Prim.Native.Nat.{ℕ, _+_}
-use lib.ListN.{length}
+use Prim.Native.Nat.{ℕ}
 use Rattle.slot.specs.If.{if_then_else_}
 use Rattle.slot.specs.Attributes.{sameWidth}
 use Rattle.store.specs.Model.{Model, shapeAt}
@@ -14,7 +13,7 @@ use Rattle.rules.specs.Shapes.{has, attributesIn, appended, configured, without
 use Rattle.rules.specs.Steps.{Step, insert, prototype, rollback}
 use Rattle.rules.specs.Calls.{actionFor}
 use Rattle.rules.specs.Trails.{trail}
-use Rattle.theorems.specs.Made.{entriesAt, prototypeAt, transitionsAt}
+use Rattle.theorems.specs.Made.{entriesAt, prototypeAt}
 use Rattle.theorems.specs.InTurn.{stepsEntries}
 use Rattle.theorems.specs.TrailRules.{trailWithout, trailChanged}
 
@@ -23,9 +22,7 @@ pub record Outcome : Type 0 where
   -- the result's
   pub entries : List Entry
   pub prototype : ℕ
-  -- of a shared shape: the transitions that the steps lead to, before the limit is looked at
-  pub transitions : ℕ
-  -- and the trail
+  -- of a shared shape: the trail that the steps lead to, before the limit is looked at
   pub trail : List Step
   -- of a unique: whether it acts on the same number; if not, the prototype that the old one is left with,
   -- without keys
@@ -43,9 +40,6 @@ module _ (m : Model) (n : ℕ) where
   abbrev fromBase : (key : ℕ) → List Step → List Entry
   fromBase k ts = stepsEntries ts (entriesAt m (rollback m n k .base))
 
-  abbrev countFromBase : (key : ℕ) → List Step → ℕ
-  countFromBase k ts = transitionsAt m (rollback m n k .base) + length ts
-
   -- The key stands at the end, with its attributes.
   abbrev pub byInsert : (key attributes : ℕ) → Outcome
   byInsert k a =
@@ -53,7 +47,6 @@ module _ (m : Model) (n : ℕ) where
         action = Nothing;
         entries = appended (entriesAt m n) k a;
         prototype = prototypeAt m n;
-        transitions = transitionsAt m n + 1;
         trail = trail m n ++ insert k a ∷ [];
         same = true;
         left = 0;
@@ -72,7 +65,6 @@ module _ (m : Model) (n : ℕ) where
             else if unique (shapeAt m n) then laid 0 (configured es k a)
             else fromBase k (changeSteps k a);
         prototype = prototypeAt m n;
-        transitions = if same then transitionsAt m n + 1 else countFromBase k (changeSteps k a);
         trail = trailChanged (trail m n) k a;
         same = same;
         left = 0;
@@ -89,7 +81,6 @@ module _ (m : Model) (n : ℕ) where
             if unique (shapeAt m n) then laid 0 (without es k)
             else fromBase k (removalSteps k);
         prototype = prototypeAt m n;
-        transitions = countFromBase k (removalSteps k);
         trail = trailWithout (trail m n) k;
         same = not (has k es);
         left = 0;
@@ -102,7 +93,6 @@ module _ (m : Model) (n : ℕ) where
         action = Nothing;
         entries = entriesAt m n;
         prototype = p;
-        transitions = transitionsAt m n + 1;
         trail = trail m n ++ prototype p ∷ [];
         same = false;
         left = prototypeAt m n;

@@ -13,8 +13,8 @@ use lib.ListN.{length}
 use Rattle.slot.specs.If.{if_then_else_}
 use Rattle.slot.specs.Attributes.{sameWidth}
 use Rattle.store.specs.Lists.{at, put, first}
-use Rattle.store.specs.Model.{Table, Model, noShape, freeShape, freeTable, freeEdge, shapeAt, putShape}
-use Rattle.store.specs.Model.{putTable, putEdge}
+use Rattle.store.specs.Model.{Table, Model, noShape, freeShape, freeTable, freeEdge, shapeAt, putShape, putTable}
+use Rattle.store.specs.Model.{putEdge}
 use Rattle.store.specs.PlaceLaws.{put-or-not, AfterPut, here, elsewhere}
 use Rattle.store.specs.ListLaws.{Decided, either}
 use Rattle.store.specs.declared.Shape.{Shape}
@@ -252,6 +252,13 @@ module _ (m : Model) (n : ℕ) (isUnique : unique (shapeAt m n) ≡ true) where
 -- One hold at the place k, as the place n counts it.
 abbrev pub one : (k n : ℕ) → ℕ
 one k n = if eqb k n then 1 else 0
+
+pub one-other : (k n : ℕ) → k ≢ n → one k n ≡ 0
+one-other k n other = rw (ne-eqb k n other)
+
+-- Place 0 is none.
+pub not-counted : (n : ℕ) → n ≢ 0 → one 0 n ≡ 0
+not-counted n place = one-other 0 n (λ e. place (sym e))
 
 module _ (m : Model) (sound : Sound m) where
   -- Other holds for a shape in use.

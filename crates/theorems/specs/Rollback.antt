@@ -1,11 +1,11 @@
--- Document 01, "Rollback before a held key": the walk back meets the key's insert step, and the steps of a
--- removal and of a change of width from the base are legal, lead to the right keys and prototype, and make
--- the trail no longer.
+-- Document 01, "Rollback before a held key": the walk back meets the key's insert step, and what it remembers is
+-- the rollback of trails. The steps of a removal and of a change of width from the base are legal, lead to the
+-- right keys and prototype, and make the trail no longer.
 -- Assumes nothing.
 use mathlib.Core.Bool.{Bool, true, false, false≢true, or-false}
 use mathlib.Core.List.{List, [], _∷_, _++_, map, append-nil}
 use mathlib.Core.Logic.{_⊎_, inl, inr}
-use mathlib.Core.Path.{_≡_, refl, sym, _∙_, ap, ap₂}
+use mathlib.Core.Path.{_≡_, refl, sym, _∙_, ap}
 use Prim.Native.Nat.{ℕ, zero, suc, _+_, _≤_, _<_}
 use native.Mathlib.Omega.{arith}
 use borrow.Author.Tests.{eqb-true, eq-eqb, not-true}
@@ -16,23 +16,25 @@ use Rattle.slot.specs.If.{if_then_else_}
 use Rattle.slot.specs.Attributes.{goodAttributes}
 use Rattle.store.specs.Lists.{every, any, last}
 use Rattle.store.specs.Model.{Model, noEntry, shapeAt}
-use Rattle.store.specs.ListLaws.{and-both, both-and, every-last, any-append, Decided, either, not-both}
-use Rattle.store.specs.ListLaws.{eqb-sym, last-map, last-append, front-last}
-use Rattle.store.specs.declared.Shape.{Shape}
+use Rattle.store.specs.ListLaws.{and-both, both-and, every-last, any-append, Decided, either, not-both, eqb-sym}
+use Rattle.store.specs.ListLaws.{last-map, last-append, front-last}
 use Rattle.store.specs.declared.Entry.{Entry}
 use Rattle.rules.specs.Numbers.{goodKey}
-use Rattle.rules.specs.Shapes.{isKey, has, without}
+use Rattle.rules.specs.Shapes.{entry, isKey, has, without, widths, configured}
 use Rattle.rules.specs.Steps.{Step, insert, configure, prototype, backward, chain, prototypeStep, lastOf}
 use Rattle.rules.specs.Steps.{inserts, remember, sameKey, yields, Back, back, rollback}
 use Rattle.rules.specs.Sound.{distinct}
-use Rattle.rules.specs.Trails.{madeBy}
+use Rattle.rules.specs.Trails.{madeBy, trail, root}
 use Rattle.theorems.specs.Facts.{Sound}
-use Rattle.theorems.specs.Entries.{keys, goodEntry, GoodKeys, good-keys, has-keys}
+use Rattle.theorems.specs.Entries.{keys, goodEntry, GoodKeys, good-keys, has-configured}
 use Rattle.theorems.specs.Made.{SharedAt, entriesAt, prototypeAt, previousAt, transitionsAt, Made}
 use Rattle.theorems.specs.Made.{entries-good, made, at-root}
-use Rattle.theorems.specs.SameTrail.{OnChain, first-on-chain, on-chain-before}
+use Rattle.theorems.specs.InTurn.{stepsPrototype, prototype-append}
+use Rattle.theorems.specs.SameTrail.{trail-length, trail-before, root-before, trail-contents}
 use Rattle.theorems.specs.Keys.{apart-distinct, Alone, distinct-alone, keys-without, keys-stepped}
 use Rattle.theorems.specs.Keys.{stepKeys, same-key-any, goodInsert, LeadTo, inserts-lead}
+use Rattle.theorems.specs.TrailRules.{orElse, newestPrototype, attributesWhileLast, keysAgain}
+use Rattle.theorems.specs.TrailLaws.{ByNewest, newest-says, again-long}
 
 -- ## Statements
 
@@ -40,34 +42,32 @@ abbrev pub keysAt : Model → ℕ → List ℕ
 keysAt m n = keys (entriesAt m n)
 
 -- No prototype step was passed and n's prototype is that at p, or the step to n's prototype is remembered.
-abbrev pub Newest : Model → (n p : ℕ) → List Step → Type 0
+abbrev Newest : Model → (n p : ℕ) → List Step → Type 0
 Newest m n p ps =
     ((ps ≡ []) × (prototypeAt m n ≡ prototypeAt m p)) ⊎ (ps ≡ prototype (prototypeAt m n) ∷ [])
 
 -- What the walk back from n finds.
 pub record Found (m : Model) (n key : ℕ) (b : Back) : Type 0 where
-  -- the shape that the key's insert step made
-  pub met : ℕ
-  pub metOnChain : OnChain m n met
+  -- the key's insert step and the steps after it; "the base is the shape before that"
   pub attributes : ℕ
-  pub metInsert : madeBy m met ≡ insert key attributes
-  -- "the base is the shape before that"
-  pub baseBefore : b .base ≡ previousAt m met
+  pub later : List Step
+  pub parts : trail m n ≡ trail m (b .base) ++ insert key attributes ∷ later
   pub baseShared : SharedAt m (b .base)
-  pub baseOnChain : OnChain m n (b .base)
+  pub sameRoot : root m (b .base) ≡ root m n
   pub goodKey : goodKey key ≡ true
   pub lacks : has key (entriesAt m (b .base)) ≡ false
+  -- what is remembered of the steps after it
+  pub newest : b .newest ≡ newestPrototype later
+  pub yielded : b .yielded ≡ keysAgain later
+  pub goodInserts : every goodInsert (b .yielded) ≡ true
   -- n's keys are the base's, then the key, then those yielded
   pub splits : keysAt m n ≡ keysAt m (b .base) ++ key ∷ stepKeys (b .yielded)
-  pub goodInserts : every goodInsert (b .yielded) ≡ true
-  pub newest : Newest m n (b .base) (b .newest)
-  -- a shape that is passed adds at most one step, and the one that is met adds none
-  pub short : transitionsAt m (b .base) + (length (b .newest) + length (b .yielded)) < transitionsAt m n
 
 -- What follows of the steps from the base.
 pub record RolledBack (m : Model) (n key : ℕ) (b : Back) : Type 0 where
   pub found : Found m n key b
-  pub fewer : transitionsAt m (b .base) < transitionsAt m n
+  -- a shape that is passed adds at most one step, and the one that the key's insert step made adds none
+  pub short : transitionsAt m (b .base) + (length (b .newest) + length (b .yielded)) < transitionsAt m n
   -- the yielded keys are distinct, none of them is the key, and none is the base's
   pub alone : Alone (keysAt m (b .base)) key (stepKeys (b .yielded))
   -- a removal leads to n's other keys and prototype, in fewer steps than n's
@@ -82,182 +82,212 @@ pub record RolledBack (m : Model) (n key : ℕ) (b : Back) : Type 0 where
   pub noLonger : (a : ℕ)
       → length (b .newest ++ insert key a ∷ b .yielded) + transitionsAt m (b .base) ≤ transitionsAt m n
 
--- ## What one shape of the walk adds
+-- ## The last entry of a shape
 
-remember-other : (s : Shape) (ps : List Step) → prototypeStep s ≡ false → remember s ps ≡ ps
-remember-other s [] e = rw e
-remember-other s (p ∷ ps) e = refl
+-- Where a step has configured the key j.
+last-configured : (k j b : ℕ) (es : List Entry) → has k es ≡ true
+    → let e = last es noEntry in
+    last (configured es j b) noEntry ≡ (if isKey j e then entry j b (e .slot .0) else e)
+last-configured k j b [] h = absurd (false≢true h)
+last-configured k j b (x ∷ xs) h = last-map (λ e. if isKey j e then entry j b (e .slot .0) else e) xs x
 
-abbrev lastKey : List ℕ → ℕ
-lastKey ks = last ks 0
+set-last : (j b : ℕ) (f : Entry) → let e = if isKey j f then entry j b (f .slot .0) else f in
+    (e .key ≡ f .key) × (e .attributes ≡ (if eqb j (f .key) then b else f .attributes))
+set-last j b f = go (isKey j f) refl
+  where
+    go : (c : Bool) → isKey j f ≡ c → let e = if c then entry j b (f .slot .0) else f in
+        (e .key ≡ f .key) × (e .attributes ≡ (if eqb j (f .key) then b else f .attributes))
+    go true q = (sym (eqb-true (f .key) j q), rw (eqb-sym j (f .key), q))
+    go false q = (refl, rw (eqb-sym j (f .key), q))
 
-front-of : (k : ℕ) (ks : List ℕ) → any (eqb k) ks ≡ true → (front : List ℕ) × (ks ≡ front ++ lastKey ks ∷ [])
-front-of k [] e = absurd (false≢true e)
-front-of k (x ∷ ks) e = front-last x ks
+-- ## The walk
 
 module _ (m : Model) (sound : Sound m) (n k : ℕ) (h : SharedAt m n) where
-  -- The yields ts are the keys after ks, or the last of ks, which is not the key, is yielded already.
-  abbrev Come : (ks after : List ℕ) (ts : List Step) → Type 0
-  Come ks after ts =
-      (stepKeys ts ≡ after) ⊎ ((stepKeys ts ≡ lastKey ks ∷ after) × (eqb (lastKey ks) k ≡ false))
-
-  -- How far the yields have come at a shape with the keys ks.
-  record Told (ks : List ℕ) (ts : List Step) : Type 0 where
-    after : List ℕ
-    splits : keysAt m n ≡ ks ++ after
-    come : Come ks after ts
-
-  -- What is known when the walk comes to p.
-  record Reached (p : ℕ) (ps ts : List Step) : Type 0 where
-    isShared : SharedAt m p
-    onWay : (x : ℕ) → OnChain m p x → OnChain m n x
-    holdsKey : any (eqb k) (keysAt m p) ≡ true
-    told : Told (keysAt m p) ts
-    goodInserts : every goodInsert ts ≡ true
-    newest : Newest m n p ps
-    short : transitionsAt m p + (length ps + length ts) ≤ transitionsAt m n
-
   good : (p : ℕ) → SharedAt m p → GoodKeys (entriesAt m p)
   good p g = good-keys (entriesAt m p) (entries-good m sound p g)
 
-  last-key : (p : ℕ) → lastOf m (shapeAt m p) .key ≡ lastKey (keysAt m p)
-  last-key p = sym (last-map (λ e. e .key) (entriesAt m p) noEntry)
+  abbrev lastAt : ℕ → Entry
+  lastAt p = lastOf m (shapeAt m p)
 
-  -- The yields after a shape that yields: its last key stands first.
-  record Yielded (p : ℕ) (ts : List Step) (after : List ℕ) : Type 0 where
-    now : List Step
-    yield : yields m k (shapeAt m p) ts ≡ now
-    first : stepKeys now ≡ lastKey (keysAt m p) ∷ after
-    goodInserts : every goodInsert now ≡ true
-    oneMore : length now ≤ length ts + 1
+  -- All yields, where the shape with the last entry e has yielded.
+  abbrev fullYield : Entry → (passed : List Step) → List Step
+  fullYield e us = insert (e .key) (attributesWhileLast (e .key) (e .attributes) us) ∷ keysAgain us
 
-  yield : (p : ℕ) (ps ts : List Step) (r : Reached p ps ts) → prototypeStep (shapeAt m p) ≡ false
-      → eqb (lastKey (keysAt m p)) k ≡ false → Yielded p ts (r .told .after)
-  yield p ps ts r notPrototype other = go (r .told .come)
+  -- The last key of the shape is not yielded yet, and keeps its attributes if it is not the key itself; or it
+  -- is yielded already.
+  abbrev Come : Entry → (passed yielded : List Step) → Type 0
+  Come e us ts =
+      ((ts ≡ keysAgain us) × (eqb (e .key) k ≡ false → (a : ℕ) → attributesWhileLast (e .key) a us ≡ a))
+      ⊎ ((ts ≡ fullYield e us) × (eqb (e .key) k ≡ false))
+
+  -- What is known when the walk comes to p and has passed the steps us.
+  record Reached (p : ℕ) (us ps ts : List Step) : Type 0 where
+    isShared : SharedAt m p
+    sameRoot : root m p ≡ root m n
+    parts : trail m n ≡ trail m p ++ us
+    holdsKey : has k (entriesAt m p) ≡ true
+    splits : keysAt m n ≡ keysAt m p ++ stepKeys (keysAgain us)
+    newest : ps ≡ newestPrototype us
+    goodInserts : every goodInsert ts ≡ true
+    come : Come (lastAt p) us ts
+
+  -- The last key is none of those that stand behind it.
+  not-again : (p : ℕ) (us ps ts : List Step) → Reached p us ps ts
+      → any (sameKey (lastAt p .key)) (keysAgain us) ≡ false
+  not-again p us ps ts r = go (entriesAt m p) refl (r .holdsKey)
+    where
+      go : (es : List Entry) → entriesAt m p ≡ es → has k es ≡ true
+          → any (sameKey (lastAt p .key)) (keysAgain us) ≡ false
+      go [] q holds = absurd (false≢true holds)
+      go (x ∷ xs) q holds =
+          let l = last (keys (x ∷ xs)) 0 in
+          let (front, ends) = front-last (x .key) (keys xs) in
+          let js = stepKeys (keysAgain us) in
+          let all : keysAt m n ≡ front ++ l ∷ js
+          = r .splits
+          ∙ ap (λ (es : List Entry). keys es ++ js) q
+          ∙ ap (λ (ks : List ℕ). ks ++ js) ends
+          ∙ append-snoc front l js in
+          let alone = distinct-alone front l js (rw all at (good n h .differ)) in
+          let told : l ≡ last (x ∷ xs) noEntry .key = last-map (λ e. e .key) (x ∷ xs) noEntry in
+          let its : lastAt p .key ≡ l = ap (λ (es : List Entry). last es noEntry .key) q ∙ sym told in
+          same-key-any (lastAt p .key) (keysAgain us) ∙ rw its (alone .notAfter)
+
+  -- A shape that yields leaves all yields.
+  yield : (p : ℕ) (us ps ts : List Step) → Reached p us ps ts → prototypeStep (shapeAt m p) ≡ false
+      → eqb (lastAt p .key) k ≡ false
+      → (yields m k (shapeAt m p) ts ≡ fullYield (lastAt p) us)
+      × (every goodInsert (fullYield (lastAt p) us) ≡ true)
+  yield p us ps ts r notPrototype other = go (r .come)
     where
       e : Entry
-      e = lastOf m (shapeAt m p)
+      e = lastAt p
 
-      yields-is : (b : Bool) → any (eqb (lastKey (keysAt m p))) (stepKeys ts) ≡ b
-          → yields m k (shapeAt m p) ts ≡ (if b then ts else insert (e .key) (e .attributes) ∷ ts)
-      yields-is b q =
-          let its : any (sameKey (e .key)) ts ≡ b = same-key-any (e .key) ts ∙ rw (last-key p) q in
-          rw (notPrototype, last-key p, other, ← last-key p, its)
-
-      go : Come (keysAt m p) (r .told .after) ts → Yielded p ts (r .told .after)
-      go (inl q) =
-          let l = lastKey (keysAt m p) in
-          let (front, ends) = front-of k (keysAt m p) (r .holdsKey) in
-          let all : keysAt m n ≡ front ++ l ∷ stepKeys ts
-          = r .told .splits ∙ ap₂ _++_ ends (sym q) ∙ append-snoc front l (stepKeys ts) in
-          let alone = distinct-alone front l (stepKeys ts) (rw all at (good n h .differ)) in
+      go : Come e us ts
+          → (yields m k (shapeAt m p) ts ≡ fullYield e us) × (every goodInsert (fullYield e us) ≡ true)
+      go (inl (y, quiet)) =
+          let apart = not-again p us ps ts r in
           let goodLast = every-last goodEntry (entriesAt m p) noEntry (good p (r .isShared) .each) refl in
-          record {
-            now = insert (e .key) (e .attributes) ∷ ts;
-            yield = yields-is false (alone .notAfter);
-            first = ap₂ _∷_ (last-key p) q;
-            goodInserts = both-and goodLast (r .goodInserts);
-            oneMore = omega arith;
-          }
-      go (inr (q, _)) =
-          record {
-            now = ts;
-            yield = yields-is true (rw (q, eq-eqb (lastKey (keysAt m p)) (lastKey (keysAt m p)) refl));
-            first = q;
-            goodInserts = r .goodInserts;
-            oneMore = omega arith;
-          }
-
-  -- ## The walk
+          rw (quiet other (e .attributes))
+          (rw (notPrototype, other, y, apart) refl, both-and goodLast (rw y at (r .goodInserts)))
+      go (inr (y, _)) =
+          (rw (notPrototype, other, y, eq-eqb (e .key) (e .key) refl) refl, rw y at (r .goodInserts))
 
   -- Back from p to its previous q, where the walk does not end at p.
-  module _ (p count : ℕ) (ps ts : List Step) (r : Reached p ps ts)
+  module _ (p count : ℕ) (us ps ts : List Step) (r : Reached p us ps ts)
       (more : transitionsAt m p ≡ suc count) where
     abbrev q : ℕ
     q = previousAt m p
 
     abbrev Rest : Type 0
     Rest =
-        (ps ts : List Step) → Reached q ps ts
+        (us ps ts : List Step) → Reached q us ps ts
         → Found m n k (back m k (map (shapeAt m) (backward count m q)) ps ts)
 
     abbrev Here : Type 0
     Here = Found m n k (back m k (map (shapeAt m) (backward (suc count) m p)) ps ts)
 
-    way : (x : ℕ) → OnChain m q x → OnChain m n x
-    way x on = r .onWay x (on-chain-before m sound p count (r .isShared) more x on)
+    -- One step more is passed.
+    parts-on : (t : Step) → madeBy m p ≡ t → trail m n ≡ trail m q ++ t ∷ us
+    parts-on t by =
+        r .parts
+        ∙ ap (λ (vs : List Step). vs ++ us) (trail-before m sound p count (r .isShared) more)
+        ∙ rw by (append-snoc (trail m q) t us)
 
-    goes-on : (qs us : List Step) → inserts m k (shapeAt m p) ≡ false → remember (shapeAt m p) ps ≡ qs
-        → yields m k (shapeAt m p) ts ≡ us → Rest → Reached q qs us → Here
-    goes-on qs us other re ye rest reached = rw (other, re, ye) (rest qs us reached)
+    root-on : root m q ≡ root m n
+    root-on = sym (root-before m sound p count (r .isShared) more) ∙ r .sameRoot
 
-    -- The newest prototype step is that one already remembered, or this one.
-    remembered : prototypeStep (shapeAt m p) ≡ true
-        → Newest m n q (remember (shapeAt m p) ps) × (length (remember (shapeAt m p) ps) ≤ length ps + 1)
-    remembered is = go (r .newest)
+    goes-on : (vs qs ws : List Step) → inserts m k (shapeAt m p) ≡ false → remember (shapeAt m p) ps ≡ qs
+        → yields m k (shapeAt m p) ts ≡ ws → Rest → Reached q vs qs ws → Here
+    goes-on vs qs ws other re ye rest reached = rw (other, re, ye) (rest vs qs ws reached)
+
+    remember-other : prototypeStep (shapeAt m p) ≡ false → remember (shapeAt m p) ps ≡ ps
+    remember-other e = go ps
       where
-        go : Newest m n p ps
-            → Newest m n q (remember (shapeAt m p) ps) × (length (remember (shapeAt m p) ps) ≤ length ps + 1)
-        go (inl (none, same)) =
-            rw (none, is) (inr (ap (λ (x : ℕ). prototype x ∷ []) (sym same)), omega arith)
-        go (inr one) = rw one (inr refl, omega arith)
+        go : (qs : List Step) → remember (shapeAt m p) qs ≡ qs
+        go [] = rw e
+        go (x ∷ xs) = refl
 
-    newest-same : prototypeAt m p ≡ prototypeAt m q → Newest m n q ps
-    newest-same same = go (r .newest)
+    remember-newest : (to : ℕ) → prototypeStep (shapeAt m p) ≡ true → prototypeAt m p ≡ to
+        → remember (shapeAt m p) ps ≡ newestPrototype (prototype to ∷ us)
+    remember-newest to is its = rw (r .newest) (go (newestPrototype us))
       where
-        go : Newest m n p ps → Newest m n q ps
-        go (inl (none, its)) = inl (none, its ∙ same)
-        go (inr one) = inr one
+        go : (qs : List Step) → remember (shapeAt m p) qs ≡ orElse qs (prototype to ∷ [])
+        go [] = rw (is, its)
+        go (x ∷ xs) = refl
 
-    by-prototype : (to : ℕ) → Made m p count (prototype to) → Rest → Here
-    by-prototype to its rest =
+    by-prototype : (to : ℕ) → madeBy m p ≡ prototype to → Made m p count (prototype to) → Rest → Here
+    by-prototype to by its rest =
         let is : prototypeStep (shapeAt m p) ≡ true = ap (λ (x : ℕ). eqb x 2) (sym (its .itsKind)) in
         let other : inserts m k (shapeAt m p) ≡ false = rw (← its .itsKind) in
-        let same : keysAt m p ≡ keysAt m q = ap keys (its .itsEntries) in
-        let (newest, oneMore) = remembered is in
-        goes-on (remember (shapeAt m p) ps) ts other refl (rw is) rest record {
+        let same = its .itsEntries in
+        goes-on (prototype to ∷ us) (newestPrototype (prototype to ∷ us)) ts other
+        (remember-newest to is (its .itsPrototype)) (rw is) rest record {
           isShared = its .previousShared;
-          onWay = way;
+          sameRoot = root-on;
+          parts = parts-on (prototype to) by;
           holdsKey = rw same at (r .holdsKey);
-          told = rw same at (r .told);
+          splits = rw same at (r .splits);
+          newest = refl;
           goodInserts = r .goodInserts;
-          newest = newest;
-          short = omega (arith, its .oneLess, r .short);
+          come = rw same at (r .come);
         }
 
-    by-configure : (j a : ℕ) → Made m p count (configure j a) → Rest → Here
-    by-configure j a its rest = go (either (eqb (lastKey (keysAt m p)) k))
+    by-configure : (j b : ℕ) → madeBy m p ≡ configure j b → Made m p count (configure j b) → Rest → Here
+    by-configure j b by its rest = go (either (eqb (lastAt p .key) k))
       where
         notPrototype : prototypeStep (shapeAt m p) ≡ false
         notPrototype = ap (λ (x : ℕ). eqb x 2) (sym (its .itsKind))
 
+        stepped : entriesAt m p ≡ configured (entriesAt m q) j b
+        stepped = its .itsEntries
+
         same : keysAt m p ≡ keysAt m q
         same =
-            ap keys (its .itsEntries)
-            ∙ keys-stepped (configure j a) (entriesAt m q)
+            ap keys stepped
+            ∙ keys-stepped (configure j b) (entriesAt m q)
             ∙ append-nil (keysAt m q)
 
-        on : (us : List Step) → yields m k (shapeAt m p) ts ≡ us → Told (keysAt m p) us
-            → every goodInsert us ≡ true → length us ≤ length ts + 1 → Here
-        on us yield told good oneMore =
+        held : has k (entriesAt m q) ≡ true
+        held = sym (ap (has k) stepped ∙ has-configured k j b (entriesAt m q)) ∙ r .holdsKey
+
+        lasts : lastAt p ≡ (if isKey j (lastAt q) then entry j b (lastAt q .slot .0) else lastAt q)
+        lasts = ap (λ (es : List Entry). last es noEntry) stepped ∙ last-configured k j b (entriesAt m q) held
+
+        key : lastAt p .key ≡ lastAt q .key
+        key = ap (λ (e : Entry). e .key) lasts ∙ set-last j b (lastAt q) .0
+
+        attributes : lastAt p .attributes ≡ (if eqb j (lastAt q .key) then b else lastAt q .attributes)
+        attributes = ap (λ (e : Entry). e .attributes) lasts ∙ set-last j b (lastAt q) .1
+
+        full : fullYield (lastAt p) us ≡ fullYield (lastAt q) (configure j b ∷ us)
+        full = rw (key, attributes)
+
+        on : (ws : List Step) → (yields m k (shapeAt m p) ts ≡ ws) × (every goodInsert ws ≡ true)
+            → Come (lastAt q) (configure j b ∷ us) ws → Here
+        on ws (ye, goodAll) come =
             let other : inserts m k (shapeAt m p) ≡ false = rw (← its .itsKind) in
-            goes-on ps us other (remember-other (shapeAt m p) ps notPrototype) yield rest record {
+            goes-on (configure j b ∷ us) ps ws other (remember-other notPrototype) ye rest record {
               isShared = its .previousShared;
-              onWay = way;
-              holdsKey = rw same at (r .holdsKey);
-              told = rw same at told;
-              goodInserts = good;
-              newest = newest-same (its .itsPrototype);
-              short = omega (arith, its .oneLess, r .short);
+              sameRoot = root-on;
+              parts = parts-on (configure j b) by;
+              holdsKey = held;
+              splits = rw same at (r .splits);
+              newest = r .newest;
+              goodInserts = goodAll;
+              come = come;
             }
 
-        go : Decided (eqb (lastKey (keysAt m p)) k) → Here
-        go (inl skip) = on ts (rw (notPrototype, last-key p, skip)) (r .told) (r .goodInserts) (omega arith)
+        skipped : eqb (lastAt p .key) k ≡ true → Come (lastAt p) us ts → Come (lastAt q) (configure j b ∷ us) ts
+        skipped skip (inl (y, _)) = inl (y, λ other. not-both skip (ap (λ (x : ℕ). eqb x k) key ∙ other))
+        skipped skip (inr (y, other)) = not-both skip other
+
+        go : Decided (eqb (lastAt p .key) k) → Here
+        go (inl skip) = on ts (rw (notPrototype, skip), r .goodInserts) (skipped skip (r .come))
         go (inr other) =
-            let y = yield p ps ts r notPrototype other in
-            let told : Told (keysAt m p) (y .now)
-            = record { after = r .told .after; splits = r .told .splits; come = inr (y .first, other) } in
-            on (y .now) (y .yield) told (y .goodInserts) (y .oneMore)
+            let (ye, goodAll) = yield p us ps ts r notPrototype other in
+            on (fullYield (lastAt q) (configure j b ∷ us)) (ye ∙ full, ap (every goodInsert) (sym full) ∙ goodAll)
+            (inr (refl, ap (λ (x : ℕ). eqb x k) (sym key) ∙ other))
 
     by-insert : (j a : ℕ) → madeBy m p ≡ insert j a → Made m p count (insert j a) → Rest → Here
     by-insert j a by its rest = go (either (eqb j k))
@@ -265,90 +295,118 @@ module _ (m : Model) (sound : Sound m) (n k : ℕ) (h : SharedAt m n) where
         notPrototype : prototypeStep (shapeAt m p) ≡ false
         notPrototype = ap (λ (x : ℕ). eqb x 2) (sym (its .itsKind))
 
+        lasts : lastAt p ≡ entry j a (widths (entriesAt m q))
+        lasts =
+            ap (λ (es : List Entry). last es noEntry) (its .itsEntries)
+            ∙ last-append (entriesAt m q) (entry j a (widths (entriesAt m q))) noEntry
+
+        key-is : isKey k (lastAt p) ≡ eqb j k
+        key-is = ap (isKey k) lasts
+
         one-more : keysAt m p ≡ keysAt m q ++ j ∷ []
         one-more = ap keys (its .itsEntries) ∙ keys-stepped (insert j a) (entriesAt m q)
 
-        last-is : lastKey (keysAt m p) ≡ j
-        last-is = ap lastKey one-more ∙ last-append (keysAt m q) j 0
-
-        key-is : isKey k (lastOf m (shapeAt m p)) ≡ eqb j k
-        key-is = ap (λ (x : ℕ). eqb x k) (last-key p ∙ last-is)
-
-        splits : keysAt m n ≡ keysAt m q ++ j ∷ r .told .after
+        splits : keysAt m n ≡ keysAt m q ++ j ∷ stepKeys (keysAgain us)
         splits =
-            r .told .splits
-            ∙ ap (λ (ks : List ℕ). ks ++ r .told .after) one-more
-            ∙ append-snoc (keysAt m q) j (r .told .after)
+            let ks = stepKeys (keysAgain us) in
+            r .splits ∙ ap (λ (x : List ℕ). x ++ ks) one-more ∙ append-snoc (keysAt m q) j ks
 
         -- the key itself is not yielded
-        yielded : eqb j k ≡ true → Come (keysAt m p) (r .told .after) ts → stepKeys ts ≡ r .told .after
-        yielded e (inl y) = y
-        yielded e (inr (y, other)) = not-both e (rw last-is at other)
+        all-yielded : eqb j k ≡ true → Come (lastAt p) us ts → ts ≡ keysAgain us
+        all-yielded e (inl (y, _)) = y
+        all-yielded e (inr (y, other)) = not-both e (sym key-is ∙ other)
 
         go : Decided (eqb j k) → Here
         go (inl e) =
             let same : j ≡ k = eqb-true j k e in
             let stop : inserts m k (shapeAt m p) ≡ true = rw (← its .itsKind) (key-is ∙ e) in
+            let all = all-yielded e (r .come) in
             rw stop record {
-              met = p;
-              metOnChain = r .onWay p (first-on-chain m sound p);
               attributes = a;
-              metInsert = rw same at by;
-              baseBefore = refl;
+              later = us;
+              parts = rw same at (parts-on (insert j a) by);
               baseShared = its .previousShared;
-              baseOnChain = way q (first-on-chain m sound q);
+              sameRoot = root-on;
               goodKey = rw same at (and-both (goodKey j) (its .good) .0);
               lacks = rw same at (not-true (has j (entriesAt m q)) (its .may));
-              splits = rw (yielded e (r .told .come), ← same) splits;
+              newest = r .newest;
+              yielded = all;
               goodInserts = r .goodInserts;
-              newest = newest-same (its .itsPrototype);
-              short = omega (arith, its .oneLess, r .short);
+              splits = rw (all, ← same) splits;
             }
         go (inr e) =
-            let y = yield p ps ts r notPrototype (rw last-is e) in
             let other : inserts m k (shapeAt m p) ≡ false = rw (← its .itsKind) (key-is ∙ e) in
-            let told : Told (keysAt m q) (y .now)
-            = record { after = j ∷ r .told .after; splits = splits; come = inl (y .first ∙ rw last-is) } in
-            goes-on ps (y .now) other (remember-other (shapeAt m p) ps notPrototype) (y .yield) rest record {
+            let (ye, goodAll) = yield p us ps ts r notPrototype (key-is ∙ e) in
+            let all = ap (λ (x : Entry). fullYield x us) lasts in
+            goes-on (insert j a ∷ us) ps (keysAgain (insert j a ∷ us)) other (remember-other notPrototype) (ye ∙ all)
+            rest
+            record {
               isShared = its .previousShared;
-              onWay = way;
-              holdsKey = rw (one-more, any-append, eqb-sym k j, e, or-false) at (r .holdsKey);
-              told = told;
-              goodInserts = y .goodInserts;
-              newest = newest-same (its .itsPrototype);
-              short = omega (arith, its .oneLess, r .short, y .oneMore);
+              sameRoot = root-on;
+              parts = parts-on (insert j a) by;
+              holdsKey = rw (its .itsEntries, any-append, e, or-false) at (r .holdsKey);
+              splits = splits;
+              newest = r .newest;
+              goodInserts = ap (every goodInsert) (sym all) ∙ goodAll;
+              come = inl (refl, λ z b. refl);
             }
 
-  walk : (count p : ℕ) (ps ts : List Step) → transitionsAt m p ≡ count → Reached p ps ts
+  walk : (count p : ℕ) (us ps ts : List Step) → transitionsAt m p ≡ count → Reached p us ps ts
       → Found m n k (back m k (map (shapeAt m) (backward count m p)) ps ts)
-  walk zero p ps ts e r =
+  walk zero p us ps ts e r =
       let none = at-root m sound p (r .isShared) e .noEntries in
-      absurd (false≢true (ap (λ (es : List Entry). any (eqb k) (keys es)) (sym none) ∙ r .holdsKey))
-  walk (suc count) p ps ts e r =
-      go (madeBy m p) refl its (λ qs us. walk count (previousAt m p) qs us (its .oneLess))
+      absurd (false≢true (ap (has k) (sym none) ∙ r .holdsKey))
+  walk (suc count) p us ps ts e r =
+      go (madeBy m p) refl its (λ vs qs ws. walk count (previousAt m p) vs qs ws (its .oneLess))
     where
       its : Made m p count (madeBy m p)
       its = made m sound p count (r .isShared) e
 
-      go : (t : Step) → madeBy m p ≡ t → Made m p count t → Rest p count ps ts r e → Here p count ps ts r e
-      go (insert j a) by its rest = by-insert p count ps ts r e j a by its rest
-      go (configure j a) by its rest = by-configure p count ps ts r e j a its rest
-      go (prototype to) by its rest = by-prototype p count ps ts r e to its rest
+      go : (t : Step) → madeBy m p ≡ t → Made m p count t → Rest p count us ps ts r e
+          → Here p count us ps ts r e
+      go (insert j a) by its rest = by-insert p count us ps ts r e j a by its rest
+      go (configure j a) by its rest = by-configure p count us ps ts r e j a by its rest
+      go (prototype to) by its rest = by-prototype p count us ps ts r e to by its rest
 
   found : has k (entriesAt m n) ≡ true → Found m n k (rollback m n k)
   unfolding rollback chain
   found holds =
-      walk (transitionsAt m n) n [] [] refl record {
+      walk (transitionsAt m n) n [] [] [] refl record {
         isShared = h;
-        onWay = λ x on. on;
-        holdsKey = sym (has-keys k (entriesAt m n)) ∙ holds;
-        told = record { after = []; splits = sym (append-nil (keysAt m n)); come = inl refl };
+        sameRoot = refl;
+        parts = sym (append-nil (trail m n));
+        holdsKey = holds;
+        splits = sym (append-nil (keysAt m n));
+        newest = refl;
         goodInserts = refl;
-        newest = inl (refl, refl);
-        short = omega arith;
+        come = inl (refl, λ z a. refl);
       }
 
   -- ## The steps from the base
+
+  newest-of : {b : Back} → Found m n k b → Newest m n (b .base) (b .newest)
+  newest-of {b} f = rw (f .newest) (go (newestPrototype (f .later)) (newest-says (f .later)))
+    where
+      its : prototypeAt m n ≡ stepsPrototype (f .later) (prototypeAt m (b .base))
+      its =
+          trail-contents m sound n h .itsPrototype
+          ∙ ap (λ (ts : List Step). stepsPrototype ts 0) (f .parts)
+          ∙ prototype-append (trail m (b .base)) (insert k (f .attributes) ∷ f .later) 0
+          ∙ ap (stepsPrototype (f .later)) (sym (trail-contents m sound (b .base) (f .baseShared) .itsPrototype))
+
+      go : (ps : List Step) → ByNewest (f .later) ps → Newest m n (b .base) ps
+      go ps (inl (none, same)) = inl (none, its ∙ same (prototypeAt m (b .base)))
+      go ps (inr (x, one, leads)) =
+          inr (one ∙ ap (λ (y : ℕ). prototype y ∷ []) (sym (its ∙ leads (prototypeAt m (b .base)))))
+
+  short-of : {b : Back} → Found m n k b
+      → transitionsAt m (b .base) + (length (b .newest) + length (b .yielded)) < transitionsAt m n
+  short-of {b} f =
+      let long = trail-length m n in
+      let base = trail-length m (b .base) in
+      let parts = ap length (f .parts) ∙ length-append (trail m (b .base)) (insert k (f .attributes) ∷ f .later) in
+      let again = again-long (f .later) in
+      rw (f .newest, f .yielded) (omega arith)
 
   -- The remembered prototype step, if there is one, and then good inserts of distinct keys.
   from-base : (p : ℕ) (ps us : List Step) → Newest m n p ps → every goodInsert us ≡ true
@@ -371,15 +429,17 @@ module _ (m : Model) (sound : Sound m) (n k : ℕ) (h : SharedAt m n) where
       let differ : distinct (ks ++ k ∷ js) ≡ true = rw (f .splits) at (good n h .differ) in
       let alone = distinct-alone ks k js differ in
       let others = apart-distinct ks js (alone .others) in
+      let newest = newest-of f in
+      let short = short-of f in
       record {
         found = f;
-        fewer = omega (arith, f .short);
+        short = short;
         alone = alone;
         removal = rw (keys-without (entriesAt m n) ks k js (f .splits) alone)
-            (from-base (b .base) (b .newest) (b .yielded) (f .newest) (f .goodInserts) others);
-        shorter = omega (arith, length-append (b .newest) (b .yielded), f .short);
+            (from-base (b .base) (b .newest) (b .yielded) newest (f .goodInserts) others);
+        shorter = omega (arith, length-append (b .newest) (b .yielded));
         change = λ a low. rw (f .splits)
-            (from-base (b .base) (b .newest) (insert k a ∷ b .yielded) (f .newest)
+            (from-base (b .base) (b .newest) (insert k a ∷ b .yielded) newest
             (both-and (both-and (f .goodKey) low) (f .goodInserts)) differ);
-        noLonger = λ a. omega (arith, length-append (b .newest) (insert k a ∷ b .yielded), f .short);
+        noLonger = λ a. omega (arith, length-append (b .newest) (insert k a ∷ b .yielded));
       }

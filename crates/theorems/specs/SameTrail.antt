@@ -22,8 +22,7 @@ use Rattle.theorems.specs.Facts.{Sound}
 use Rattle.theorems.specs.Made.{SharedAt, entriesAt, prototypeAt, previousAt, transitionsAt, Made, made}
 use Rattle.theorems.specs.Made.{at-root}
 use Rattle.theorems.specs.InTurn.{stepsEntries, stepsPrototype, LegalInTurn, entries-append}
-use Rattle.theorems.specs.InTurn.{prototype-append}
-use Rattle.theorems.specs.InTurn.{legal-append}
+use Rattle.theorems.specs.InTurn.{prototype-append, legal-append}
 
 -- ## Statements
 
@@ -144,7 +143,7 @@ module _ (m : Model) (sound : Sound m) where
     unfolding root chain
     root-before = rw (e, less) (last-back m count (previousAt m n) n)
 
-  pub first-on-chain : (n : ℕ) → OnChain m n n
+  first-on-chain : (n : ℕ) → OnChain m n n
   unfolding chain
   first-on-chain n = go (transitionsAt m n)
     where
@@ -153,7 +152,7 @@ module _ (m : Model) (sound : Sound m) where
       go (suc count) = rw (eq-eqb n n refl)
 
   -- One shape further back.
-  pub on-chain-before : (n count : ℕ) → SharedAt m n → transitionsAt m n ≡ suc count
+  on-chain-before : (n count : ℕ) → SharedAt m n → transitionsAt m n ≡ suc count
       → (p : ℕ) → OnChain m (previousAt m n) p → OnChain m n p
   on-chain-before n count h e p on = rw (chain-before n count h e) (then-or (eqb p n) (λ z. on))
 

@@ -1,6 +1,8 @@
 -- `questions::is_shared` meets its contract. Assumes nothing.
 use Rattle.holds.specs.Granted.{not-held, may-name, held-place}
-use Rattle.questions.specs.Asked.{is-shared-refused, shared-told, unique-told}
+use Rattle.questions.specs.Asked.{no-shape, shared-told, unique-told}
+use mathlib.Core.Path.{refl}
+use Rattle.rules.specs.Calls.{isShared}
 use borrow.Author.Needs.{needs}
 use Rattle.questions.proofs.is_shared.Statement.{statement}
 use Rattle.questions.proofs.is_shared.Tie as tie
@@ -9,7 +11,7 @@ is-held-requires : tie.Need-is-held-requires
 is-held-requires c κs = search needs
 
 returns : tie.Need-returns
-returns c = is-shared-refused _ _ (not-held _ _ (c .before .is-held .ensures) (c .if1 .taken))
+returns c = no-shape _ _ (not-held _ _ (c .before .is-held .ensures) (c .if1 .taken)) isShared refl
 
 get-shape-requires : tie.Need-get-shape-requires
 get-shape-requires c κs =

@@ -2,7 +2,8 @@
 use Rattle.theorems.specs.Changes.{may-act}
 use Rattle.property_table.specs.Readable.{readable}
 use Rattle.holds.specs.Granted.{not-held, may-name, held-place}
-use Rattle.questions.specs.Asked.{keys-refused, out-short, keys-listed}
+use Rattle.questions.specs.Asked.{no-shape, out-short, keys-listed}
+use Rattle.rules.specs.Calls.{keysInto}
 use mathlib.Core.Path.{refl}
 use borrow.Author.Needs.{needs}
 use Rattle.questions.proofs.keys.Statement.{statement}
@@ -12,7 +13,7 @@ is-held-requires : tie.Need-is-held-requires
 is-held-requires c κs = search needs
 
 returns : tie.Need-returns
-returns c = (keys-refused _ _ (not-held _ _ (c .before .is-held .ensures) (c .if1 .taken)) _, refl)
+returns c = (no-shape _ _ (not-held _ _ (c .before .is-held .ensures) (c .if1 .taken)) (keysInto _) refl, refl)
 
 get-shape-requires : tie.Need-get-shape-requires
 get-shape-requires c κs =

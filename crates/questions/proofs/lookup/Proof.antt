@@ -3,7 +3,8 @@ use borrow.Author.Tests.{not-true, not-false}
 use mathlib.Core.Path.{sym, _∙_}
 use Rattle.theorems.specs.Changes.{may-act}
 use Rattle.holds.specs.Granted.{not-held, may-name}
-use Rattle.questions.specs.Asked.{bad-key, lookup-refused, lookup-finds, lookup-finds-nothing}
+use Rattle.questions.specs.Asked.{bad-key, no-shape, lookup-finds, lookup-finds-nothing}
+use Rattle.rules.specs.Calls.{lookup}
 use borrow.Author.Needs.{needs}
 use Rattle.questions.proofs.lookup.Statement.{statement}
 use Rattle.questions.proofs.lookup.Tie as tie
@@ -22,7 +23,7 @@ returns-2 c =
     let is-held = c .before .is-held in
     let if1 = c .before .before .if1 in
     let good-key = c .before .before .before .good-key in
-    lookup-refused _ _ (not-held _ _ (is-held .ensures) (c .if2 .taken)) _ (sym (good-key .ensures) ∙
+    no-shape _ _ (not-held _ _ (is-held .ensures) (c .if2 .taken)) (lookup _) (sym (good-key .ensures) ∙
     not-false _ (if1 .left))
 
 find-requires : tie.Need-find-requires

@@ -1,6 +1,8 @@
 -- `questions::prototype` meets its contract. Assumes nothing.
 use Rattle.holds.specs.Granted.{not-held, may-name, held-place}
-use Rattle.questions.specs.Asked.{prototype-refused, prototype-told}
+use Rattle.questions.specs.Asked.{no-shape, prototype-told}
+use mathlib.Core.Path.{refl}
+use Rattle.rules.specs.Calls.{prototypeOf}
 use borrow.Author.Needs.{needs}
 use Rattle.questions.proofs.prototype.Statement.{statement}
 use Rattle.questions.proofs.prototype.Tie as tie
@@ -9,7 +11,7 @@ is-held-requires : tie.Need-is-held-requires
 is-held-requires c κs = search needs
 
 returns : tie.Need-returns
-returns c = prototype-refused _ _ (not-held _ _ (c .before .is-held .ensures) (c .if1 .taken))
+returns c = no-shape _ _ (not-held _ _ (c .before .is-held .ensures) (c .if1 .taken)) prototypeOf refl
 
 get-shape-requires : tie.Need-get-shape-requires
 get-shape-requires c κs =

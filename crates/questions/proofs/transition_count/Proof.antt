@@ -1,6 +1,8 @@
 -- `questions::transition_count` meets its contract. Assumes nothing.
 use Rattle.holds.specs.Granted.{not-held, may-name, held-place}
-use Rattle.questions.specs.Asked.{transitions-refused, transitions-told}
+use Rattle.questions.specs.Asked.{no-shape, transitions-told}
+use mathlib.Core.Path.{refl}
+use Rattle.rules.specs.Calls.{transitionsOf}
 use borrow.Author.Needs.{needs}
 use Rattle.questions.proofs.transition_count.Statement.{statement}
 use Rattle.questions.proofs.transition_count.Tie as tie
@@ -9,7 +11,7 @@ is-held-requires : tie.Need-is-held-requires
 is-held-requires c κs = search needs
 
 returns : tie.Need-returns
-returns c = transitions-refused _ _ (not-held _ _ (c .before .is-held .ensures) (c .if1 .taken))
+returns c = no-shape _ _ (not-held _ _ (c .before .is-held .ensures) (c .if1 .taken)) transitionsOf refl
 
 get-shape-requires : tie.Need-get-shape-requires
 get-shape-requires c κs =
