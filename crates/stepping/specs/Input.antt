@@ -278,7 +278,10 @@ module _ (s : State) (b : ℕ) (input : List ℕ) where
       → Answers (state (s .model) begun) input cs → Answers s (b ∷ input) cs
   unfolding taken
   byte-answered took spoke rest =
-      record { left = ap (λ (s₁ : State). taken s₁ input .model) took ∙ rest .left; told = all-said-more ∙ rw (took, spoke) (rest .told) }
+      record {
+        left = ap (λ (s₁ : State). taken s₁ input .model) took ∙ rest .left;
+        told = all-said-more ∙ rw (took, spoke) (rest .told);
+      }
 
 rest-answered : (m : Model) (line input : List ℕ) → Plain line
     → Answers (state m (take 65 line)) input (inputCalls (line ++ input))
