@@ -41,7 +41,7 @@ slice-aggregate-answer-block-2 c = search needs
 answer-block-requires : tie.Need-answer-block-requires Inv-loop μ-loop
 answer-block-requires c κs =
     let inv = c .before .before .before .before .before .before .before .before .before .before .before .loop .inv .0 in
-    (inv .replayed .ready, (inv .kept .long, (inv .kept .few, search needs)))
+    (inv .replayed .ready, (inv .kept .long, (search needs, search needs)))
 
 asked-for-requires : tie.Need-asked-for-requires Inv-loop μ-loop
 asked-for-requires c κs = search needs
