@@ -4,7 +4,6 @@
 Reads the image's words, the program's input, and prints what the program should print.
 Written from document 01's sentences; it shares nothing with the definitions or the code.
 """
-import sys
 from collections import Counter
 from pathlib import Path
 
@@ -156,7 +155,7 @@ def main():
                     still += sound(words)
             words[at] = old
         print(name, tried, still)
-    return 0
 
 
-sys.exit(main())
+if __name__ == "__main__":
+    main()

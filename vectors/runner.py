@@ -11,7 +11,6 @@ import re
 import sys
 from pathlib import Path
 
-S, T, K, E = 256, 32, 32, 256
 NOTHING, REMOVE, INSERT = 0, 1, 2
 FORM = re.compile(rb"([RUS])|([IC]) (\d+) (\d+) (\d+)|([DP]) (\d+) (\d+)|(F) (\d+)", re.ASCII)
 
@@ -35,6 +34,8 @@ class Shape:
 class Image:
     """Shapes, tables and edges by place; an edge is [parent, kind, key or prototype, attributes, child (0 dead)]."""
 
+    S, T, K, E = 256, 32, 32, 256
+
     def __init__(self, shapes=None, tables=None, edges=None):
         self.shapes, self.tables, self.edges = shapes or {}, tables or {}, edges or {}
 
@@ -46,15 +47,15 @@ class Image:
 
     def new_shape(self, shape, entries=None):
         """A shape, and a table for it if it has entries of its own. "7 to 10: the lowest that applies"."""
-        if len(self.shapes) == S:
+        if len(self.shapes) == self.S:
             raise Refused(8)
-        if entries is not None and len(self.tables) == T:
+        if entries is not None and len(self.tables) == self.T:
             raise Refused(9)
         if entries is not None:
-            shape.table = next(t for t in range(1, T + 1) if t not in self.tables)
+            shape.table = next(t for t in range(1, self.T + 1) if t not in self.tables)
             self.tables[shape.table] = list(entries)
             shape.properties = len(entries)
-        place = next(n for n in range(1, S + 1) if n not in self.shapes)
+        place = next(n for n in range(1, self.S + 1) if n not in self.shapes)
         self.shapes[place] = shape
         return place
 
@@ -79,7 +80,7 @@ class Image:
             parent.counters[edge_kind] = 0
         own = self.keys(n)
         appends = kind == "insert" and len(self.tables[parent.table]) == len(own)
-        if kind == "insert" and len(own) == K:
+        if kind == "insert" and len(own) == self.K:
             raise Refused(7)
         child = Shape(parent.table, n, kind, parent.transitions + 1, parent.properties, parent.prototype)
         entries = None
@@ -98,9 +99,10 @@ class Image:
         if parent.counters[edge_kind] == 255:
             self.prune(n, edge_kind)
         parent.counters[edge_kind] = (parent.counters[edge_kind] + 1) % 256
-        if len(self.edges) == E:
+        if len(self.edges) == self.E:
             raise Refused(10)
-        self.edges[next(p for p in range(1, E + 1) if p not in self.edges)] = [n, edge_kind, label, attributes, place]
+        free = next(p for p in range(1, self.E + 1) if p not in self.edges)
+        self.edges[free] = [n, edge_kind, label, attributes, place]
         return place
 
     def steps(self, n, steps):
@@ -153,7 +155,7 @@ class Image:
             raise Refused(5)
         if not shape.unique:
             return self.grant(self.steps(n, [("insert", key, attributes)]))
-        if shape.properties == K:
+        if shape.properties == self.K:
             raise Refused(7)
         self.tables[shape.table].append((key, attributes))
         shape.properties += 1

@@ -71,11 +71,15 @@ module _ {ws : List ℕ} (ready : Ready ws) where
 runner-formattable : (ws : List ℕ) → length ws ≡ 6952 → formattable runnerLimits ws ≡ true
 runner-formattable ws e = eq-eqb (length ws) 6952 e
 
+runner-read : parse (formatted runnerLimits) ≡ blank runnerLimits
+runner-read =
+    let l = runnerLimits in
+    ap parse (sym (blank-words l)) ∙ parse-words (blank l) (fits-blank l)
+
 runner-ready : Ready (formatted runnerLimits)
 runner-ready =
     let l = runnerLimits in
     let m = blank l in
-    let read : parse (formatted l) ≡ m = ap parse (sym (blank-words l)) ∙ parse-words m (fits-blank l) in
     let laid : Lays (formatted l) m = record {
       laid = sym (blank-words l);
       roomy = fits-blank l;
@@ -86,7 +90,7 @@ runner-ready =
         edges = omega (arith, length-replicate 256 noEdge);
       };
     } in
-    record { formed = rw read laid; isSound = rw read (sound-facts m (fits-blank l) (blank-sound l)) }
+    record { formed = rw runner-read laid; isSound = rw runner-read (sound-facts m (fits-blank l) (blank-sound l)) }
 
 -- What the runner starts with.
 pub record Starts (ws : List ℕ) : Type 0 where
@@ -98,3 +102,6 @@ pub starts : (before : List ℕ) {after : List ℕ} → length before ≡ 6952
 starts before {after} long e =
     let written : after ≡ formatted runnerLimits = rw (runner-formattable before long) at e in
     record { blank = written; ready = rw written runner-ready }
+
+pub starts-read : {ws : List ℕ} → Starts ws → parse ws ≡ blank runnerLimits
+starts-read s = ap parse (s .blank) ∙ runner-read

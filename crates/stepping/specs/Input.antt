@@ -1,5 +1,5 @@
--- Input byte by byte: what the runner has come to, and what it says. For every list of blocks it says what
--- document 01's runner answers to their bytes one after the other.
+-- Input byte by byte: what the runner has come to, and what it says. For every list of blocks it leaves and says
+-- what document 01's runner leaves and answers to their bytes one after the other.
 -- Assumes nothing.
 use mathlib.Core.Bool.{Bool, true, false}
 use mathlib.Core.List.{List, [], _∷_, _++_, append-nil, append-assoc}
@@ -68,14 +68,18 @@ unfoldable pub said : State → List ℕ → List ℕ
 said s [] = []
 said s (b ∷ bs) = byteSaid s b ++ said (byteTaken s b) bs
 
--- "an unended last one too, is BadLine"
+-- What blocks one after the other lead to, and what is said to them.
+unfoldable pub blocksTaken : State → List (List ℕ) → State
+blocksTaken s [] = s
+blocksTaken s (block ∷ blocks) = blocksTaken (taken s block) blocks
+
+unfoldable pub blocksSaid : State → List (List ℕ) → List ℕ
+blocksSaid s [] = []
+blocksSaid s (block ∷ blocks) = said s block ++ blocksSaid (taken s block) blocks
+
+-- At the end of the input: "an unended last one too, is BadLine".
 abbrev pub lastSaid : (begun : ℕ) → List ℕ
 lastSaid begun = if eqb begun 0 then [] else replyText badLine
-
--- What is said to blocks one after the other, and at the end of the input.
-unfoldable pub blocksSaid : State → List (List ℕ) → List ℕ
-blocksSaid s [] = lastSaid (length (s .begun))
-blocksSaid s (block ∷ blocks) = said s block ++ blocksSaid (taken s block) blocks
 
 -- ## More bytes
 
@@ -91,7 +95,16 @@ said-more s (x ∷ xs) ys =
     ap (λ (t : List ℕ). byteSaid s x ++ t) (said-more (byteTaken s x) xs ys)
     ∙ sym (append-assoc (byteSaid s x) _ _)
 
--- ## The whole input, and its answers
+-- ## The whole input, what it leaves, and its answers
+
+-- The model after calls and bad lines, one after the other.
+abbrev pub leaves : Model → List (Option Call) → Model
+leaves m [] = m
+leaves m (c ∷ cs) = leaves (answerTo m c .0) cs
+
+-- What document 01's runner leaves when it has answered its whole input.
+unfoldable pub runnerLeaves : Model → (input : List ℕ) → Model
+runnerLeaves m input = leaves m (inputCalls input)
 
 -- The texts of replies, one after the other.
 abbrev pub textOf : List (List ℕ) → List ℕ
@@ -103,14 +116,17 @@ joined [] = []
 joined (block ∷ blocks) = block ++ joined blocks
 
 -- The blocks' borders do not matter.
-one-block : (s : State) (blocks : List (List ℕ))
-    → blocksSaid s blocks ≡ said s (joined blocks) ++ lastSaid (length (taken s (joined blocks) .begun))
-unfolding blocksSaid taken said
-one-block s [] = refl
-one-block s (block ∷ blocks) =
-    rw (taken-more s block (joined blocks), said-more s block (joined blocks))
-    (ap (λ (t : List ℕ). said s block ++ t) (one-block (taken s block) blocks)
-    ∙ sym (append-assoc (said s block) _ _))
+one-taken : (s : State) (blocks : List (List ℕ)) → blocksTaken s blocks ≡ taken s (joined blocks)
+unfolding blocksTaken taken
+one-taken s [] = refl
+one-taken s (block ∷ blocks) = one-taken (taken s block) blocks ∙ sym (taken-more s block (joined blocks))
+
+one-said : (s : State) (blocks : List (List ℕ)) → blocksSaid s blocks ≡ said s (joined blocks)
+unfolding blocksSaid said
+one-said s [] = refl
+one-said s (block ∷ blocks) =
+    ap (λ (t : List ℕ). said s block ++ t) (one-said (taken s block) blocks)
+    ∙ sym (said-more s block (joined blocks))
 
 -- ## Lines
 
@@ -211,65 +227,101 @@ calls-line line rest plain =
 allSaid : State → List ℕ → List ℕ
 allSaid s input = said s input ++ lastSaid (length (taken s input .begun))
 
+-- An input leaves what calls leave, and their replies are said to it.
+record Answers (s : State) (input : List ℕ) (calls : List (Option Call)) : Type 0 where
+  left : taken s input .model ≡ leaves (s .model) calls
+  told : allSaid s input ≡ textOf (replies (s .model) calls)
+
 cut-length : (line : List ℕ) → eqb (length (take 65 line)) 0 ≡ eqb (length line) 0
 cut-length [] = refl
 cut-length (b ∷ line) = not-empty b (take 64 line) ∙ sym (not-empty b line)
 
-all-said-more : (s : State) (b : ℕ) (input : List ℕ)
-    → allSaid s (b ∷ input) ≡ byteSaid s b ++ allSaid (byteTaken s b) input
+end-answered : (m : Model) (line : List ℕ) → Plain line → Answers (state m (take 65 line)) [] (inputCalls line)
 unfolding allSaid taken said
-all-said-more s b input =
-    let s₁ = byteTaken s b in
-    append-assoc (byteSaid s b) (said s₁ input) (lastSaid (length (taken s₁ input .begun)))
-
-all-said-end : (m : Model) (line : List ℕ) → Plain line
-    → allSaid (state m (take 65 line)) [] ≡ textOf (replies m (inputCalls line))
-unfolding allSaid taken said
-all-said-end m line plain = rw (calls-end line plain, cut-length line) (go (eqb (length line) 0))
+end-answered m line plain =
+    rw (calls-end line plain)
+    record { left = left (eqb (length line) 0); told = rw (cut-length line) (told (eqb (length line) 0)) }
   where
-    go : (t : Bool)
+    left : (t : Bool) → m ≡ leaves m (if t then [] else none ∷ [])
+    left true = refl
+    left false = refl
+
+    told : (t : Bool)
         → (if t then [] else replyText badLine) ≡ textOf (replies m (if t then [] else none ∷ []))
-    go true = refl
-    go false = sym (append-nil (replyText badLine))
+    told true = refl
+    told false = sym (append-nil (replyText badLine))
+
+module _ (s : State) (b : ℕ) (input : List ℕ) where
+  all-said-more : allSaid s (b ∷ input) ≡ byteSaid s b ++ allSaid (byteTaken s b) input
+  unfolding allSaid taken said
+  all-said-more =
+      let s₁ = byteTaken s b in
+      append-assoc (byteSaid s b) (said s₁ input) (lastSaid (length (taken s₁ input .begun)))
+
+  line-answered : (c : Option Call) (cs : List (Option Call)) → let a = answerTo (s .model) c in
+      byteTaken s b ≡ state (a .0) [] → byteSaid s b ≡ replyText (a .1)
+      → Answers (state (a .0) []) input cs → Answers s (b ∷ input) (c ∷ cs)
+  unfolding taken
+  line-answered c cs took spoke rest =
+      record {
+        left = ap (λ (s₁ : State). taken s₁ input .model) took ∙ rest .left;
+        told = all-said-more ∙ rw (took, spoke, rest .told) (replied c);
+      }
+    where
+      replied : (c : Option Call) → let a = answerTo (s .model) c in
+          replyText (a .1) ++ textOf (replies (a .0) cs) ≡ textOf (replies (s .model) (c ∷ cs))
+      replied none = refl
+      replied (some c) = refl
+
+  byte-answered : {begun : List ℕ} {cs : List (Option Call)}
+      → byteTaken s b ≡ state (s .model) begun → byteSaid s b ≡ []
+      → Answers (state (s .model) begun) input cs → Answers s (b ∷ input) cs
+  unfolding taken
+  byte-answered took spoke rest =
+      record {
+        left = ap (λ (s₁ : State). taken s₁ input .model) took ∙ rest .left;
+        told = all-said-more ∙ rw (took, spoke) (rest .told);
+      }
 
 rest-answered : (m : Model) (line input : List ℕ) → Plain line
-    → allSaid (state m (take 65 line)) input ≡ textOf (replies m (inputCalls (line ++ input)))
-rest-answered m line [] plain = rw (append-nil line) (all-said-end m line plain)
+    → Answers (state m (take 65 line)) input (inputCalls (line ++ input))
+rest-answered m line [] plain = rw (append-nil line) (end-answered m line plain)
 rest-answered m line (b ∷ input) plain =
-    all-said-more (state m (take 65 line)) b input
-    ∙ go (either (eqb b lineFeed))
+    go (either (eqb b lineFeed))
     (λ m₁. rest-answered m₁ [] input no-bytes)
     (λ e. rest-answered m (line ++ b ∷ []) input (plain-more line b e plain))
   where
     s : State
     s = state m (take 65 line)
 
-    Rest : Model → List ℕ → Type 0
-    Rest m₁ begun = allSaid (state m₁ (take 65 begun)) input ≡ textOf (replies m₁ (inputCalls (begun ++ input)))
-
-    ended : (c : Option Call) → ((m₁ : Model) → Rest m₁ [])
-        → let a = answerTo m c in
-        replyText (a .1) ++ allSaid (state (a .0) []) input ≡ textOf (replies m (c ∷ inputCalls input))
-    ended none next = ap (λ (t : List ℕ). replyText badLine ++ t) (next m)
-    ended (some c) next = let r = call m c in
-        ap (λ (t : List ℕ). replyText (fourNumbers (r .1)) ++ t) (next (r .0))
-
-    go : Decided (eqb b lineFeed) → ((m₁ : Model) → Rest m₁ [])
-        → (eqb b lineFeed ≡ false → Rest m (line ++ b ∷ []))
-        → byteSaid s b ++ allSaid (byteTaken s b) input ≡ textOf (replies m (inputCalls (line ++ b ∷ input)))
+    go : Decided (eqb b lineFeed) → ((m₁ : Model) → Answers (state m₁ []) input (inputCalls input))
+        → (eqb b lineFeed ≡ false
+        → Answers (state m (take 65 (line ++ b ∷ []))) input (inputCalls ((line ++ b ∷ []) ++ input)))
+        → Answers s (b ∷ input) (inputCalls (line ++ b ∷ input))
     go (inl e) next more =
         let feed = eqb-true b lineFeed e in
         let calls : inputCalls (line ++ b ∷ input) ≡ lineCall line ∷ inputCalls input =
         rw feed (calls-line line input plain) in
-        let (took, spoke) = line-ends s b feed in
-        rw (took, spoke, cut-line line, calls) (ended (lineCall line) next)
+        let (took, spoke) = rw (cut-line line) at (line-ends s b feed) in
+        rw calls (line-answered s b input (lineCall line) (inputCalls input) took spoke (next _))
     go (inr e) next more =
         let (took, spoke) = line-goes-on s b (eqb-false b lineFeed e) in
-        rw (took, spoke, cut-more line b, ← (append-snoc line b input)) (more e)
+        rw (← (append-snoc line b input))
+        (byte-answered s b input (took ∙ ap (state m) (cut-more line b)) spoke (more e))
 
--- For every list of blocks: what is said is the text of what document 01's runner answers to the whole input.
+-- For every list of blocks: what is said to them, and then at the end of the input, is the text of what document 01's
+-- runner answers to the whole input,
 pub blocks-answered : (m : Model) (blocks : List (List ℕ))
-    → blocksSaid (state m []) blocks ≡ textOf (runner m (joined blocks))
+    → let s = state m [] in blocksSaid s blocks ++ lastSaid (length (blocksTaken s blocks .begun))
+    ≡ textOf (runner m (joined blocks))
 unfolding runner allSaid
 blocks-answered m blocks =
-    one-block (state m []) blocks ∙ rest-answered m [] (joined blocks) no-bytes
+    rw (one-taken (state m []) blocks, one-said (state m []) blocks)
+    (rest-answered m [] (joined blocks) no-bytes .told)
+
+-- and what they lead to is what it leaves.
+pub blocks-left : (m : Model) (blocks : List (List ℕ))
+    → blocksTaken (state m []) blocks .model ≡ runnerLeaves m (joined blocks)
+unfolding runnerLeaves
+blocks-left m blocks =
+    rw (one-taken (state m []) blocks) (rest-answered m [] (joined blocks) no-bytes .left)

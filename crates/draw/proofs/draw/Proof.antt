@@ -16,11 +16,11 @@ write-graph-requires : tie.Need-write-graph-requires
 write-graph-requires c κs =
     let at-replay = c .before .before .before .before .before .before in
     let start = at-replay .before .before .before .before .before in
-    let now = at-replay .replay .ensures .1 in
-    let small = small-still (now .1) (small-blank (start .pre .0 .blank)) in
+    let replayed = at-replay .replay .ensures in
+    let small = small-still (replayed .became .sizes) (small-blank (start .pre .0 .blank)) in
     let shapes = small .shapes in
     let edges = small .edges in
-    (now .0 .formed, (now .0 .isSound, (small .keys, search needs)))
+    (replayed .ready .formed, (replayed .ready .isSound, (small .keys, search needs)))
 
 slice-reshare-prefix-write-all : tie.Need-slice-reshare-prefix-write-all
 slice-reshare-prefix-write-all c = search needs

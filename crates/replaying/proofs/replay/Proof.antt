@@ -1,37 +1,21 @@
--- `replaying::replay` meets its contract: the image stays sound, so that no line tests it. Assumes nothing.
-use mathlib.Core.Path.{_≡_, sym}
-use Prim.Native.Nat.{_≤_}
+-- `replaying::replay` meets its contract: each turn takes one more block. Assumes nothing.
+use mathlib.Core.Path.{_≡_}
+use native.Mathlib.Omega.{arith}
 use lib.ListN.{length}
-use lib.Seq.{length-take-le}
-use Rattle.store.specs.Layout.{parse}
-use Rattle.store.specs.Image.{Becomes, unchanged, and-then}
-use Rattle.stepping.specs.Answering.{Ready}
-use Rattle.stepping.specs.Taking.{comes-ready}
+use Rattle.replaying.specs.Replayed.{Replaying, nothing-read, block-read, answers-printable}
 use borrow.Author.Needs.{needs}
 use Rattle.replaying.proofs.replay.Statement.{statement}
 use Rattle.replaying.proofs.replay.Tie as tie
 
 abbrev Inv-loop : tie.InvT-loop
 Inv-loop image₀ out₀ answered line₀ block₀ begun₀ turns₀ image out line block begun turns =
-    Becomes image₀ image (parse image)
-    × Ready image
-    × (length out ≡ length out₀)
-    × (length line ≡ 65)
-    × (length block ≡ 4096)
-    × (begun ≤ 65)
+    Replaying image₀ out₀ image line out begun × (length block ≡ 4096)
 
 abbrev μ-loop : tie.MeasureT-loop
 μ-loop image₀ out₀ answered line₀ block₀ begun₀ turns₀ image out line block begun turns = turns
 
 loop-holds : tie.Need-loop-holds Inv-loop μ-loop
-loop-holds c = (
-  unchanged (c .before .before .pre .0 .formed),
-  c .before .before .pre .0,
-  search needs,
-  search needs,
-  search needs,
-  search needs,
-)
+loop-holds c = (nothing-read _ _ (c .before .before .pre .0) (search needs), search needs)
 
 slice-aggregate-read : tie.Need-slice-aggregate-read Inv-loop μ-loop
 slice-aggregate-read c = search needs
@@ -56,17 +40,19 @@ slice-aggregate-answer-block-2 c = search needs
 
 answer-block-requires : tie.Need-answer-block-requires Inv-loop μ-loop
 answer-block-requires c κs =
-    let at-loop = c .before .before .before .before .before .before .before .before .before .before .before in
-    (at-loop .loop .inv .1, (search needs, (search needs, search needs)))
+    let inv = c .before .before .before .before .before .before .before .before .before .before .before .loop .inv .0 in
+    (inv .replayed .ready, (inv .kept .long, (search needs, search needs)))
 
-slice-reshare-prefix-write-all : tie.Need-slice-reshare-prefix-write-all Inv-loop μ-loop
-slice-reshare-prefix-write-all c = search needs
+asked-for-requires : tie.Need-asked-for-requires Inv-loop μ-loop
+asked-for-requires c κs = search needs
 
-slice-aggregate-write-all : tie.Need-slice-aggregate-write-all Inv-loop μ-loop
-slice-aggregate-write-all c = sym (length-take-le _ _ (search needs))
-
-write-all-requires : tie.Need-write-all-requires Inv-loop μ-loop
-write-all-requires c κs = search needs
+print-answers-requires : tie.Need-print-answers-requires Inv-loop μ-loop
+print-answers-requires c κs =
+    let at-answer = c .before .before .before .before .before .before .before in
+    let at-count = at-answer .before .before .before .before .before .before in
+    let answered = at-count .before .before .before .before .before .before .before .before .before .args .answered in
+    let answer = at-answer .answer-block .ensures in
+    answers-printable _ _ (answer .0) (answer .1) answered (c .asked-for .ensures)
 
 sub-turns : tie.Need-sub-turns Inv-loop μ-loop
 sub-turns c = search needs
@@ -76,18 +62,13 @@ loop-less c = search needs
 
 loop-again : tie.Need-loop-again Inv-loop μ-loop
 loop-again c =
-    let at-answer-block = c .before .before .before .before .before .before in
-    let at-read = at-answer-block .before .before .before .before .before .before in
-    let at-loop = at-read .before .before .before .before .before .before in
-    let come = at-answer-block .answer-block .ensures .0 in
-    let became = come .became in (
-      rw (became .parsed) (and-then (at-loop .loop .inv .0) became),
-      comes-ready come,
-      search needs,
-      search needs,
-      search needs,
-      come .kept .few,
-    )
+    let at-answer = c .before .before .before .before .before .before .before .before in
+    let at-count = at-answer .before .before .before .before .before .before in
+    let at-loop = at-count .before .before .before .before .before .before in
+    let some = at-answer .before .before .before .before .before .if1 .left in
+    let counted = at-count .count .ensures .0 in
+    let answer = at-answer .answer-block .ensures .0 in
+    (block-read _ _ _ (at-loop .loop .inv .0) (omega arith) (omega arith) answer, search needs)
 
 same-length : tie.Need-same-length Inv-loop μ-loop
 same-length c = search needs
@@ -96,8 +77,7 @@ same-length-2 : tie.Need-same-length-2 Inv-loop μ-loop
 same-length-2 c = search needs
 
 returns : tie.Need-returns Inv-loop μ-loop
-returns c =
-    (c .before .loop .inv .5, (c .before .loop .inv .1, c .before .loop .inv .0 .sizes))
+returns c = c .before .loop .inv .0 .replayed
 
 same-length-3 : tie.Need-same-length-3 Inv-loop μ-loop
 same-length-3 c = search needs
@@ -106,9 +86,7 @@ same-length-4 : tie.Need-same-length-4 Inv-loop μ-loop
 same-length-4 c = search needs
 
 returns-2 : tie.Need-returns-2 Inv-loop μ-loop
-returns-2 c =
-    let at-loop = c .before .before .before .before .before in
-    (at-loop .loop .inv .5, (at-loop .loop .inv .1, at-loop .loop .inv .0 .sizes))
+returns-2 c = c .before .before .before .before .before .before .before .loop .inv .0 .replayed
 
 pub replay-spec : {M : Type 1} → statement M
 replay-spec =
@@ -125,9 +103,8 @@ replay-spec =
     array-share-prefix-block
     slice-aggregate-answer-block-2
     answer-block-requires
-    slice-reshare-prefix-write-all
-    slice-aggregate-write-all
-    write-all-requires
+    asked-for-requires
+    print-answers-requires
     sub-turns
     loop-less
     loop-again

@@ -5,26 +5,14 @@ use borrow.Author.Needs.{needs}
 use Rattle.runner.proofs.main.Statement.{statement}
 use Rattle.runner.proofs.main.Tie as tie
 
-slice-aggregate-format-image : tie.Need-slice-aggregate-format-image
-slice-aggregate-format-image c = search needs
+slice-aggregate-answer-input : tie.Need-slice-aggregate-answer-input
+slice-aggregate-answer-input c = search needs
 
-format-image-requires : tie.Need-format-image-requires
-format-image-requires c κs = search needs
+slice-aggregate-answer-input-2 : tie.Need-slice-aggregate-answer-input-2
+slice-aggregate-answer-input-2 c = search needs
 
-slice-aggregate-replay : tie.Need-slice-aggregate-replay
-slice-aggregate-replay c = search needs
-
-slice-aggregate-replay-2 : tie.Need-slice-aggregate-replay-2
-slice-aggregate-replay-2 c = search needs
-
-replay-requires : tie.Need-replay-requires
-replay-requires c κs = (c .before .before .before .format-image .ensures .ready, search needs)
-
-slice-aggregate-end-of-input : tie.Need-slice-aggregate-end-of-input
-slice-aggregate-end-of-input c = search needs
-
-end-of-input-requires : tie.Need-end-of-input-requires
-end-of-input-requires c κs = search needs
+answer-input-requires : tie.Need-answer-input-requires
+answer-input-requires c κs = search needs
 
 array-share-prefix-out : tie.Need-array-share-prefix-out
 array-share-prefix-out c = search needs
@@ -42,13 +30,9 @@ pub main-spec : {M : Type 1} → statement M
 main-spec =
     tie.close
     (tie.spec
-    slice-aggregate-format-image
-    format-image-requires
-    slice-aggregate-replay
-    slice-aggregate-replay-2
-    replay-requires
-    slice-aggregate-end-of-input
-    end-of-input-requires
+    slice-aggregate-answer-input
+    slice-aggregate-answer-input-2
+    answer-input-requires
     array-share-prefix-out
     slice-aggregate-write-all
     write-all-requires
