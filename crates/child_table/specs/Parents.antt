@@ -9,6 +9,7 @@ use native.Mathlib.Omega.{arith}
 use borrow.Author.Tests.{eq-eqb, ne-eqb, le-leb, not-true}
 use lib.ListN.{length}
 use lib.Seq.{take-all, getD-take, length-take-le}
+use Rattle.slot.specs.Attributes.{mostStored}
 use Rattle.store.specs.Lists.{lowest}
 use Rattle.store.specs.Model.{Table, Model, free, used, noEntry, freeTable, tableAt, putTable}
 use Rattle.store.specs.Layout.{parse}
@@ -43,7 +44,7 @@ pub record Parent (m : Model) (s : Shape) (t : Step) : Type 0 where
   pub fits : s .properties ≤ length (tableOf m s)
   pub room : added t ≡ 1 → s .properties ≢ m .K
   pub may : mayStep t (entries m s) ≡ true
-  pub low : edgeAttributes t ≤ 31
+  pub low : edgeAttributes t ≤ mostStored
 
 -- ## A copy
 
@@ -161,7 +162,7 @@ module _ {m : Model} {s : Shape} {k a : ℕ} (p : Parent m s (configure k a)) wh
           let same : keyAt es i ≡ k = ap (λ (e : Entry). e .key) (sym first) ∙ held .key in
           let wide = and-both (has k (entries m s)) (p .may) .1 in
           let all = rw (attributes-take k (s .properties) es is-held) at wide in
-          rw same (configured-laid k a es (p .good .good) (le-leb a 31 (p .low)) all)
+          rw same (configured-laid k a es (p .good .good) (le-leb a mostStored (p .low)) all)
 
 -- ## Prototype
 

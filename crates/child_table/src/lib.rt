@@ -7,6 +7,7 @@ use property_table::lookup;
 use rules::StepRecord;
 use slot::SlotAttributes;
 use store::Shape;
+use store::StepKind;
 use store::image::entry_count;
 use store::image::lowest_free_table;
 ghost use Rattle.store.specs.Layout.{parse};
@@ -58,10 +59,6 @@ fn configure_table(image: &mut [u32], s: Shape, key: u32, attributes: u32) -> u3
     table
 }
 
-const INSERT: u32 = 0;
-
-const CONFIGURE: u32 = 1;
-
 pub fn child_table(image: &mut [u32], s: Shape, t: StepRecord) -> u32
     requires { ⌜ Formed (now image) ⌝ }
     requires { ⌜ Parent (parse (now image)) s (stepIn t) ⌝ }
@@ -71,10 +68,10 @@ pub fn child_table(image: &mut [u32], s: Shape, t: StepRecord) -> u32
         (childTable (parse (now (image .entry))) s (stepIn t)) (At r)
         ⌝ }
 {
-    if t.kind == INSERT {
+    if t.kind == StepKind::INSERT {
         return insert_table(image, s, t.label, t.attributes);
     }
-    if t.kind == CONFIGURE {
+    if t.kind == StepKind::CONFIGURE {
         return configure_table(image, s, t.label, t.attributes);
     }
     s.table

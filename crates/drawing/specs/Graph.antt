@@ -1,5 +1,6 @@
 -- A model's shapes as a graph in the language of Graphviz: one definition for each part of the text.
 -- Assumes nothing.
+use mathlib.Core.Bool.{Bool}
 use mathlib.Core.List.{List, [], _∷_, _++_}
 use mathlib.Core.Path.{_≡_, refl}
 use Prim.Native.Nat.{ℕ, suc, _+_, _%_, _^_}
@@ -13,6 +14,7 @@ use Rattle.store.specs.declared.Entry.{Entry}
 use Rattle.store.specs.declared.Edge.{Edge}
 use Rattle.rules.specs.Numbers.{kindOf}
 use Rattle.rules.specs.Shapes.{unique, has, entries}
+use Rattle.rules.specs.Steps.{prototypeEdgeKind}
 use Rattle.rules.specs.Text.{bytes}
 use Rattle.lines.specs.Decimal.{decimalDigits}
 
@@ -40,17 +42,22 @@ symbol : keyText 1073741827 ≡ bytes "symbol 3"
 unfolding keyText decimalDigits
 symbol = refl
 
--- The attribute's letter, `-` if it is not present.
-unfoldable pub letterOf : (bit letter attributes : ℕ) → ℕ
-letterOf bit letter a = if present bit a then letter else 45
+-- An attribute's letter, `-` if it is not present.
+abbrev pub letterIf : (isPresent : Bool) (letter : ℕ) → ℕ
+letterIf isPresent letter = if isPresent then letter else 45
 
 -- Writable, enumerable, configurable, get, set: `wec--`, `-ecg-`.
 unfoldable pub attributesText : ℕ → List ℕ
 attributesText a =
-    letterOf 1 119 a ∷ letterOf 2 101 a ∷ letterOf 4 99 a ∷ letterOf 8 103 a ∷ letterOf 16 115 a ∷ []
+    letterIf (present 1 a) 119
+    ∷ letterIf (present 2 a) 101
+    ∷ letterIf (present 4 a) 99
+    ∷ letterIf (present 8 a) 103
+    ∷ letterIf (present 16 a) 115
+    ∷ []
 
 getter : attributesText 14 ≡ bytes "-ecg-"
-unfolding attributesText letterOf present
+unfolding attributesText present
 getter = refl
 
 -- ## The rows of a key
@@ -117,7 +124,7 @@ unfoldable pub propertyStepText : Model → Edge → List ℕ
 propertyStepText m e = stepName m e ++ keyText (e .label) ++ bytes " " ++ attributesText (e .attributes)
 
 unfoldable pub stepText : Model → Edge → List ℕ
-stepText m e = if eqb (e .kind) 1 then numbered "prototype " (e .label) else propertyStepText m e
+stepText m e = if eqb (e .kind) prototypeEdgeKind then numbered "prototype " (e .label) else propertyStepText m e
 
 -- A dead edge is dashed, and leads to a point of its own.
 unfoldable pub ends : ℕ → Edge → List ℕ

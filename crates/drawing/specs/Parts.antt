@@ -1,5 +1,6 @@
 -- Texts written one after the other into lent bytes, each with the most bytes that it may have.
 -- Assumes nothing.
+use mathlib.Core.Bool.{Bool}
 use mathlib.Core.List.{List, [], _∷_, _++_, append-nil, append-assoc}
 use mathlib.Core.Path.{_≡_, refl, _∙_, ap}
 use Prim.Native.Nat.{ℕ, zero, suc, _+_, _*_, _≤_, _<_}
@@ -8,8 +9,9 @@ use native.Mathlib.Numerals.{add-one}
 use native.Mathlib.Omega.{arith}
 use lib.ListN.{length, getD, take, set}
 use lib.Seq.{take-length}
+use Rattle.slot.specs.Attributes.{present}
 use Rattle.lines.specs.Writing.{Written, written-then, length-kept}
-use Rattle.drawing.specs.Graph.{texts, letterOf, attributesText}
+use Rattle.drawing.specs.Graph.{texts, letterIf, attributesText}
 
 -- A text of so many bytes at most stands in the lent bytes from a position on, up to its end. No other byte is
 -- changed.
@@ -104,7 +106,13 @@ puts-byte out at b = puts 1 (record { stored = refl; ended = refl }) (omega arit
 
 -- ## The letters of attributes
 
-pub five-letters : {w e c g s : ℕ} (a : ℕ) → w ≡ letterOf 1 119 a → e ≡ letterOf 2 101 a → c ≡ letterOf 4 99 a
-    → g ≡ letterOf 8 103 a → s ≡ letterOf 16 115 a → attributesText a ≡ w ∷ e ∷ c ∷ g ∷ s ∷ []
+-- A letter that was chosen by a test.
+pub letter-told : {told is : Bool} {r : ℕ} (letter : ℕ) → told ≡ is → r ≡ letterIf told letter
+    → r ≡ letterIf is letter
+letter-told letter e chosen = chosen ∙ ap (λ (b : Bool). letterIf b letter) e
+
+pub five-letters : {w e c g s : ℕ} (a : ℕ) → w ≡ letterIf (present 1 a) 119 → e ≡ letterIf (present 2 a) 101
+    → c ≡ letterIf (present 4 a) 99 → g ≡ letterIf (present 8 a) 103 → s ≡ letterIf (present 16 a) 115
+    → attributesText a ≡ w ∷ e ∷ c ∷ g ∷ s ∷ []
 unfolding attributesText
 five-letters a w e c g s = rw (w, e, c, g, s)

@@ -6,6 +6,7 @@ use Prim.Native.Nat.{ℕ, suc, _+_, _*_, _^_, _≤_, _<_}
 use native.Mathlib.Omega.{arith}
 use lib.ListN.{length, getD, take}
 use lib.Seq.{getD-take, length-take-le}
+use Rattle.slot.specs.Attributes.{mostStored}
 use Rattle.store.specs.Model.{noEntry}
 use Rattle.store.specs.declared.Entry.{Entry}
 use Rattle.property_table.specs.Slotted.{Slotted, slotted-take, byte-at, next-slot, widths-few}
@@ -46,7 +47,7 @@ module _ (count : ℕ) (es : List Entry) (inside : count ≤ length es) where
 
   -- What a row asks of its entry.
   pub row-fits : {i : ℕ} {e : Entry} → Slotted es → length es ≤ 2048 → i < count → e ≡ getD es i noEntry
-      → (e .attributes ≤ 31) × (e .slot .0 + 1 < 2 ^ 32)
+      → (e .attributes ≤ mostStored) × (e .slot .0 + 1 < 2 ^ 32)
   row-fits {i} s few l read =
       rw read (
         byte-at s i,

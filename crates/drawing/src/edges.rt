@@ -6,10 +6,12 @@ use crate::words::write_word;
 use property_table::OptionalProperty;
 use property_table::find;
 use store::Edge;
+use store::EdgeKind;
 use store::image::edge_count;
 use store::image::get_edge;
 ghost use Prim.Native.Nat.{_+_, _*_, _≤_};
 ghost use lib.ListN.{length};
+ghost use Rattle.slot.specs.Attributes.{mostStored};
 ghost use Rattle.store.specs.Model.{edgeAt};
 ghost use Rattle.store.specs.Layout.{parse};
 ghost use Rattle.store.specs.Image.{Formed, Place};
@@ -38,6 +40,7 @@ fn write_property_step(out: &mut [u8], at: usize, image: &[u32], e: Edge) -> usi
     requires { ⌜ Formed (now image) ⌝ }
     requires { ⌜ Sound (parse (now image)) ⌝ }
     requires { ⌜ Used (parse (now image)) (e .parent) ⌝ }
+    requires { ⌜ e .attributes ≤ mostStored ⌝ }
     requires { ⌜ at + 33 ≤ length (now out) ⌝ }
     ensures { λ r. ⌜
         Puts (now (out .entry)) (now (out .exit)) at
@@ -54,12 +57,13 @@ fn write_step(out: &mut [u8], at: usize, image: &[u32], e: Edge) -> usize
     requires { ⌜ Formed (now image) ⌝ }
     requires { ⌜ Sound (parse (now image)) ⌝ }
     requires { ⌜ Used (parse (now image)) (e .parent) ⌝ }
+    requires { ⌜ e .attributes ≤ mostStored ⌝ }
     requires { ⌜ at + 33 ≤ length (now out) ⌝ }
     ensures { λ r. ⌜
         Puts (now (out .entry)) (now (out .exit)) at (stepText (parse (now (image .entry))) e) 33 r
         ⌝ }
 {
-    if e.kind == 1 {
+    if e.kind == EdgeKind::PROTOTYPE {
         return write_numbered(out, at, b"prototype ", e.label);
     }
     write_property_step(out, at, image, e)

@@ -3,6 +3,7 @@ use crate::rows::write_rows;
 use crate::words::write_numbered;
 use crate::words::write_word;
 use store::Shape;
+use store::ShapeState;
 use store::image::get_shape;
 use store::image::shape_count;
 ghost use Prim.Native.Nat.{_+_, _*_, _≤_};
@@ -20,7 +21,7 @@ fn write_state(out: &mut [u8], at: usize, s: Shape) -> usize
     requires { ⌜ at + 12 ≤ length (now out) ⌝ }
     ensures { λ r. ⌜ Puts (now (out .entry)) (now (out .exit)) at (stateText s) 12 r ⌝ }
 {
-    if s.state == 2 {
+    if s.state == ShapeState::UNIQUE {
         return write_word(out, at, b"</b>, unique");
     }
     write_word(out, at, b"</b>, shared")
@@ -52,7 +53,7 @@ fn write_apart(out: &mut [u8], at: usize, n: u32, s: Shape) -> usize
     requires { ⌜ at + 70 ≤ length (now out) ⌝ }
     ensures { λ r. ⌜ Puts (now (out .entry)) (now (out .exit)) at (apartText n s) 70 r ⌝ }
 {
-    if s.state != 2 {
+    if s.state != ShapeState::UNIQUE {
         return at;
     }
     let end = write_numbered(
@@ -94,7 +95,7 @@ fn write_node(out: &mut [u8], at: usize, image: &[u32], n: u32) -> usize
         ⌝ }
 {
     let s = get_shape(image, n);
-    if s.state == 0 {
+    if s.state == ShapeState::FREE {
         return at;
     }
     write_shape(out, at, image, n, s)

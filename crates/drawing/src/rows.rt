@@ -9,6 +9,7 @@ use store::Entry;
 use store::image::get_entry;
 ghost use Prim.Native.Nat.{_+_, _*_, _≤_, _<_, _^_};
 ghost use lib.ListN.{length, take};
+ghost use Rattle.slot.specs.Attributes.{mostStored};
 ghost use Rattle.store.specs.Layout.{parse};
 ghost use Rattle.store.specs.Image.{Formed, Place};
 ghost use Rattle.property_table.specs.Copies.{entriesIn};
@@ -17,6 +18,7 @@ ghost use Rattle.drawing.specs.Parts.{Puts};
 ghost use Rattle.drawing.specs.Graph.{keyRow, rowText, rowsText};
 
 fn write_key_row(out: &mut [u8], at: usize, e: Entry, cell: &[u8], what: &[u8]) -> usize
+    requires { ⌜ e .attributes ≤ mostStored ⌝ }
     requires { ⌜ length (now cell) ≤ 21 ⌝ }
     requires { ⌜ length (now what) ≤ 25 ⌝ }
     requires { ⌜ at + 107 ≤ length (now out) ⌝ }
@@ -35,7 +37,7 @@ fn write_key_row(out: &mut [u8], at: usize, e: Entry, cell: &[u8], what: &[u8]) 
 }
 
 fn write_row(out: &mut [u8], at: usize, e: Entry) -> usize
-    requires { ⌜ e .attributes ≤ 31 ⌝ }
+    requires { ⌜ e .attributes ≤ mostStored ⌝ }
     requires { ⌜ e .slot .0 + 1 < 2 ^ 32 ⌝ }
     requires { ⌜ at + 150 ≤ length (now out) ⌝ }
     ensures { λ r. ⌜ Puts (now (out .entry)) (now (out .exit)) at (rowText e) 150 r ⌝ }
@@ -46,7 +48,8 @@ fn write_row(out: &mut [u8], at: usize, e: Entry) -> usize
     let cell = b"</td><td rowspan=\"2\">";
     let get = write_key_row(out, at, e, cell, b"</td><td>get</td></tr>\n");
     let place = e.slot;
-    let set = write_numbered(out, get, b"<tr><td>", place.0 + 1);
+    let second = place.after(1);
+    let set = write_numbered(out, get, b"<tr><td>", second.0);
     write_word(out, set, b"</td><td>set</td></tr>\n")
 }
 
@@ -63,10 +66,10 @@ pub fn write_rows(out: &mut [u8], at: usize, image: &[u32], table: u32, count: u
         ⌝ }
 {
     let mut end = at;
-    let mut i = 0;
-    while i < count {
-        end = write_row(out, end, get_entry(image, table, KeyPosition(i)));
-        i += 1;
+    let mut position = KeyPosition(0);
+    while position.0 < count {
+        end = write_row(out, end, get_entry(image, table, position));
+        position = KeyPosition(position.0 + 1);
     }
     end
 }

@@ -5,9 +5,10 @@ ghost use mathlib.Core.Path.{_≡_};
 ghost use mathlib.Core.List.{_++_};
 ghost use Prim.Native.Nat.{_+_, _≤_};
 ghost use lib.ListN.{length};
+ghost use Rattle.slot.specs.Attributes.{mostStored};
 ghost use Rattle.lines.specs.Decimal.{decimalDigits};
 ghost use Rattle.drawing.specs.Parts.{Puts};
-ghost use Rattle.drawing.specs.Graph.{keyText, letterOf, attributesText};
+ghost use Rattle.drawing.specs.Graph.{keyText, letterIf, attributesText};
 
 const IDS: u32 = 1 << 30;
 
@@ -54,29 +55,26 @@ pub fn write_key(out: &mut [u8], at: usize, key: u32) -> usize
     write_numbered(out, at, b"index ", id)
 }
 
-fn letter_of(bit: SlotAttributes, letter: u8, attributes: u32) -> u8
-    requires { ⌜ 1 ≤ bit .0 ⌝ }
-    ensures { λ r. ⌜ r ≡ letterOf (bit .0) letter attributes ⌝ }
+fn letter_if(present: bool, letter: u8) -> u8
+    ensures { λ r. ⌜ r ≡ letterIf present letter ⌝ }
 {
-    if attributes / bit.0 as u32 % 2 == 1 {
-        letter
-    } else {
-        b'-'
-    }
+    if present { letter } else { b'-' }
 }
 
 pub fn write_attributes(out: &mut [u8], at: usize, attributes: u32) -> usize
+    requires { ⌜ attributes ≤ mostStored ⌝ }
     requires { ⌜ at + 5 ≤ length (now out) ⌝ }
     ensures { λ r. ⌜
         Puts (now (out .entry)) (now (out .exit)) at (attributesText attributes) 5 r
         ⌝ }
 {
+    let stored = SlotAttributes(attributes as u8);
     let letters = [
-        letter_of(SlotAttributes::WRITABLE, b'w', attributes),
-        letter_of(SlotAttributes::ENUMERABLE, b'e', attributes),
-        letter_of(SlotAttributes::CONFIGURABLE, b'c', attributes),
-        letter_of(SlotAttributes::GET, b'g', attributes),
-        letter_of(SlotAttributes::SET, b's', attributes),
+        letter_if(stored.is_writable(), b'w'),
+        letter_if(stored.is_enumerable(), b'e'),
+        letter_if(stored.is_configurable(), b'c'),
+        letter_if(stored.has_get(), b'g'),
+        letter_if(stored.has_set(), b's'),
     ];
     write_word(out, at, &letters)
 }

@@ -3,6 +3,8 @@
 use rules::StepRecord;
 use store::Counters;
 use store::Edge;
+use store::EdgeKind;
+use store::StepKind;
 use store::image::edge_count;
 use store::image::get_edge;
 use store::image::get_shape;
@@ -56,10 +58,10 @@ fn is_dead(e: Edge, parent: u32, kind: u32) -> bool
 pub fn edge_of(parent: u32, t: StepRecord, child: u32) -> Edge
     ensures { λ r. ⌜ r ≡ edgeOf parent (stepIn t) child ⌝ }
 {
-    if t.kind > 1 {
+    if t.kind > StepKind::CONFIGURE {
         return Edge {
             parent,
-            kind: 1,
+            kind: EdgeKind::PROTOTYPE,
             label: t.label,
             attributes: 0,
             child,
@@ -67,7 +69,7 @@ pub fn edge_of(parent: u32, t: StepRecord, child: u32) -> Edge
     }
     Edge {
         parent,
-        kind: 0,
+        kind: EdgeKind::PROPERTY,
         label: t.label,
         attributes: t.attributes,
         child,
@@ -155,7 +157,7 @@ pub fn dead_edges(image: &[u32], parent: u32, kind: u32) -> u32
 pub fn counter(counters: Counters, kind: u32) -> u32
     ensures { λ r. ⌜ r ≡ counter kind counters ⌝ }
 {
-    if kind == 0 {
+    if kind == EdgeKind::PROPERTY {
         counters.property
     } else {
         counters.prototype
@@ -165,7 +167,7 @@ pub fn counter(counters: Counters, kind: u32) -> u32
 fn set_counter(counters: Counters, kind: u32, value: u32) -> Counters
     ensures { λ r. ⌜ r ≡ setCounter kind value counters ⌝ }
 {
-    if kind == 0 {
+    if kind == EdgeKind::PROPERTY {
         Counters {
             property: value,
             prototype: counters.prototype,

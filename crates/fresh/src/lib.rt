@@ -4,6 +4,7 @@ use rules::Placement;
 use rules::Refusal;
 use store::Counters;
 use store::Shape;
+use store::ShapeState;
 use store::image::get_shape;
 use store::image::lowest_free_shape;
 use store::image::lowest_free_table;
@@ -20,10 +21,6 @@ ghost use Rattle.rules.specs.Steps.{fresh};
 ghost use Rattle.rules.specs.Placing.{Places};
 ghost use Rattle.theorems.specs.Facts.{Sound, Used};
 ghost use Rattle.fresh.specs.Room.{freeRoom};
-
-const SHARED: u32 = 1;
-
-const UNIQUE: u32 = 2;
 
 pub struct FreePlaces {
     pub shape: u32,
@@ -103,7 +100,15 @@ pub fn put_unique(
         (putShape (parse (now (image .entry))) n (uniqueShape holds properties prototype table))
         ⌝ }
 {
-    put_standing(image, n, UNIQUE, holds, properties, prototype, table);
+    put_standing(
+        image,
+        n,
+        ShapeState::UNIQUE,
+        holds,
+        properties,
+        prototype,
+        table,
+    );
 }
 
 // A shape without keys.
@@ -132,7 +137,7 @@ pub fn new_root(image: &mut [u32]) -> Placement
         (fresh (parse (now (image .entry))) rootShape []) r
         ⌝ }
 {
-    new_shape(image, SHARED)
+    new_shape(image, ShapeState::SHARED)
 }
 
 pub fn new_unique(image: &mut [u32]) -> Placement
@@ -142,7 +147,7 @@ pub fn new_unique(image: &mut [u32]) -> Placement
         (fresh (parse (now (image .entry))) (uniqueShape 0 0 0) []) r
         ⌝ }
 {
-    new_shape(image, UNIQUE)
+    new_shape(image, ShapeState::UNIQUE)
 }
 
 // The shape's own keys are the first of its table, which others may share.

@@ -5,6 +5,7 @@ use rules::GivenShape;
 use rules::Placement;
 use rules::Refusal;
 use rules::ShapeReply;
+use store::ShapeState;
 use store::image::get_shape;
 use store::image::put_shape;
 use store::image::shape_count;
@@ -33,7 +34,7 @@ pub fn is_held(image: &[u32], n: u32) -> bool
         return false;
     }
     let s = get_shape(image, n);
-    s.state != 0 && s.holds != 0
+    s.state != ShapeState::FREE && s.holds != 0
 }
 
 pub fn is_full(image: &[u32], n: u32) -> bool

@@ -21,7 +21,8 @@ const S: u32 = 1 << 30;
 // Kind 2, indexes.
 const INDEX_5: u32 = (2 << 30) + 5;
 
-// A step is three words: one of these, a key or a prototype, and the attributes, which the last two do not look at.
+// A step of a lesson is three words: one of these calls, which are no step kinds; a key or a prototype; and the
+// attributes, which the last two do not look at.
 const INSERT: u32 = 0;
 
 const CHANGE: u32 = 1;

@@ -5,6 +5,7 @@ use rules::Refusal;
 use rules::StepRecord;
 use steps::get_step;
 use steps::step_count;
+use store::StepKind;
 use store::image::entry_count;
 use store::image::free_edges;
 use store::image::free_shapes;
@@ -48,23 +49,27 @@ pub fn room_at(image: &[u32], place: u32, back: u32) -> Room
 fn added(t: StepRecord) -> u32
     ensures { λ r. ⌜ r ≡ added (stepIn t) ⌝ }
 {
-    if t.kind == 0 { 1 } else { 0 }
+    if t.kind == StepKind::INSERT { 1 } else { 0 }
 }
 
 // The new step needs a table of its own.
 fn copies(whole: bool, t: StepRecord) -> bool
     ensures { λ r. ⌜ r ≡ copies whole (stepIn t) ⌝ }
 {
-    if t.kind == 0 {
+    if t.kind == StepKind::INSERT {
         return !whole;
     }
-    t.kind == 1
+    t.kind == StepKind::CONFIGURE
 }
 
 fn whole_after(whole: bool, t: StepRecord) -> bool
     ensures { λ r. ⌜ r ≡ wholeAfter whole (stepIn t) ⌝ }
 {
-    if t.kind == 0 { true } else { whole }
+    if t.kind == StepKind::INSERT {
+        true
+    } else {
+        whole
+    }
 }
 
 fn tables_left(t: StepRecord, room: Room) -> u32

@@ -11,7 +11,7 @@ use borrow.Author.Tests.{eq-eqb}
 use lib.Dec.{eqb}
 use lib.ListN.{length, getD, set, take, drop}
 use lib.Seq.{split-at, set-split, take-length, length-take-le}
-use Rattle.slot.specs.Attributes.{goodAttributes, sameWidth}
+use Rattle.slot.specs.Attributes.{mostStored, goodAttributes, sameWidth}
 use Rattle.store.specs.Model.{Model, used, freeTable, tableAt, putTable, noEntry}
 use Rattle.store.specs.ListLaws.{or-none, eqb-sym, keep-append}
 use Rattle.store.specs.Layout.{parse}
@@ -148,7 +148,7 @@ module _ {before now : List ℕ} {from to n p : ℕ} (f : Formed before) (t : Ap
     key-copied : Becomes before next (putTable (parse before) to (used grown))
     key-copied = appended-after t (take p es) first (e .key) a one
 
-    pub changed-ready : a ≤ 31 → Formed next × Copyable (parse next) from to (p + 1) n
+    pub changed-ready : a ≤ mostStored → Formed next × Copyable (parse next) from to (p + 1) n
     changed-ready low =
         let longer = length-appended (take p es) (e .key) a in
         let right = slotted-appended (e .key) a slots low in

@@ -11,7 +11,7 @@ use borrow.Author.Tests.{leb-true, le-leb}
 use lib.ListN.{length, getD, take}
 use lib.Seq.{take-length}
 use Rattle.slot.specs.If.{if_then_else_}
-use Rattle.slot.specs.Attributes.{goodAttributes, accessor, width}
+use Rattle.slot.specs.Attributes.{mostStored, goodAttributes, accessor, width}
 use Rattle.slot.specs.Slots.{slotOf, nextIndex}
 use Rattle.slot.specs.declared.Slot.{Slot}
 use Rattle.slot.specs.declared.OptionalSlot.{OptionalSlot}
@@ -68,15 +68,15 @@ pub slotted-take : (n : ℕ) {es : List Entry} → Slotted es → Slotted (take 
 slotted-take n {es} s =
     record { slots = laid-take 0 n es ∙ ap (take n) (s .slots); bytes = every-take goodByte n es (s .bytes) }
 
-pub slotted-appended : {es : List Entry} (k a : ℕ) → Slotted es → a ≤ 31 → Slotted (appended es k a)
+pub slotted-appended : {es : List Entry} (k a : ℕ) → Slotted es → a ≤ mostStored → Slotted (appended es k a)
 slotted-appended {es} k a s low =
     record {
       slots = laid-append 0 es _ ∙ rw (s .slots) (ap (λ (n : ℕ). es ++ entry k a n ∷ []) (omega arith));
-      bytes = every-append goodByte es _ (s .bytes) (both-and (le-leb a 31 low) refl);
+      bytes = every-append goodByte es _ (s .bytes) (both-and (le-leb a mostStored low) refl);
     }
 
-pub byte-at : {es : List Entry} → Slotted es → (p : ℕ) → getD es p noEntry .attributes ≤ 31
-byte-at {es} s p = leb-true _ 31 (every-place noEntry goodByte es refl (s .bytes) (suc p))
+pub byte-at : {es : List Entry} → Slotted es → (p : ℕ) → getD es p noEntry .attributes ≤ mostStored
+byte-at {es} s p = leb-true _ mostStored (every-place noEntry goodByte es refl (s .bytes) (suc p))
 
 -- ## The next slot index
 

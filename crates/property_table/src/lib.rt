@@ -15,6 +15,7 @@ ghost use mathlib.Core.Bool.{true, false};
 ghost use mathlib.Core.List.{_++_};
 ghost use Prim.Native.Nat.{_+_, _-_, _≤_, _<_};
 ghost use lib.ListN.{length, take, drop};
+ghost use Rattle.slot.specs.Attributes.{mostStored};
 ghost use Rattle.store.specs.Model.{shapeAt, tableAt, putTable, freeTable, free, used};
 ghost use Rattle.store.specs.Layout.{parse};
 ghost use Rattle.store.specs.Image.{Formed, Place, Becomes};
@@ -40,9 +41,9 @@ pub enum OptionalProperty {
     Nothing,
 }
 
-// A stored value has no more than 31 in its attribute word.
+// A stored value fits the attribute byte.
 fn slot_in(e: Entry) -> Slot
-    requires { ⌜ e .attributes ≤ 31 ⌝ }
+    requires { ⌜ e .attributes ≤ mostStored ⌝ }
     ensures { λ r. ⌜ r ≡ slotIn e ⌝ }
 {
     let index = e.slot;
@@ -189,7 +190,7 @@ pub fn copy_changed(
     requires { ⌜ tableAt (parse (now image)) to ≡ free ⌝ }
     requires { ⌜ position .0 < length (entriesIn (now image) from) ⌝ }
     requires { ⌜ distinct (keys (entriesIn (now image) from)) ≡ true ⌝ }
-    requires { ⌜ attributes .0 ≤ 31 ⌝ }
+    requires { ⌜ attributes .0 ≤ mostStored ⌝ }
     ensures { λ _. ⌜
         Becomes (now (image .entry)) (now (image .exit))
         (putTable (parse (now (image .entry))) to

@@ -8,6 +8,7 @@ use rules::LookupReply;
 use rules::NumberReply;
 use rules::Refusal;
 use rules::good_key;
+use store::ShapeState;
 use store::image::get_shape;
 use store::rows::wide;
 ghost use Rattle.store.specs.Layout.{parse};
@@ -88,7 +89,7 @@ pub fn is_shared(image: &[u32], n: u32) -> NumberReply
         return NumberReply::Refused(Refusal::NoShape);
     }
     let s = get_shape(image, n);
-    if s.state == 1 {
+    if s.state == ShapeState::SHARED {
         return NumberReply::Is(1);
     }
     NumberReply::Is(0)

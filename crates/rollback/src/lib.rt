@@ -8,6 +8,7 @@ use steps::put_step;
 use steps::step_count;
 use store::Entry;
 use store::Shape;
+use store::StepKind;
 use store::image::get_entry;
 use store::image::get_shape;
 ghost use mathlib.Core.Path.{_≡_};
@@ -47,10 +48,6 @@ pub struct Replay {
     pub start: usize,
 }
 
-const INSERT: u32 = 0;
-
-const PROTOTYPE: u32 = 2;
-
 fn last_entry(image: &[u32], s: Shape) -> Entry
     requires { ⌜ Formed (now image) ⌝ }
     requires { ⌜ Tabled (parse (now image)) s ⌝ }
@@ -73,7 +70,7 @@ fn inserts(image: &[u32], s: Shape, key: u32) -> bool
     ensures { λ r. ⌜ r ≡ inserts (parse (now (image .entry))) key s ⌝ }
 {
     let e = last_entry(image, s);
-    s.step == INSERT && e.key == key
+    s.step == StepKind::INSERT && e.key == key
 }
 
 // The walk meets the newest first.
@@ -83,7 +80,7 @@ fn remember(s: Shape, newest: OptionalPrototype) -> OptionalPrototype
     match newest {
         OptionalPrototype::At(to) => OptionalPrototype::At(to),
         OptionalPrototype::Nothing => {
-            if s.step == PROTOTYPE {
+            if s.step == StepKind::PROTOTYPE {
                 OptionalPrototype::At(s.prototype)
             } else {
                 OptionalPrototype::Nothing
@@ -132,7 +129,7 @@ fn yield_last(image: &[u32], s: Shape, key: u32, steps: &mut [u32], start: usize
         (yields (parse (now (image .entry))) key s (drop start (stepsIn (now (steps .entry)))))
         ⌝ }
 {
-    if s.step == PROTOTYPE {
+    if s.step == StepKind::PROTOTYPE {
         return start;
     }
     let e = last_entry(image, s);
@@ -146,7 +143,7 @@ fn yield_last(image: &[u32], s: Shape, key: u32, steps: &mut [u32], start: usize
         steps,
         start,
         StepRecord {
-            kind: INSERT,
+            kind: StepKind::INSERT,
             label: e.key,
             attributes: e.attributes,
         },
@@ -195,7 +192,7 @@ fn push_newest(steps: &mut [u32], start: usize, newest: OptionalPrototype) -> us
             steps,
             start,
             StepRecord {
-                kind: PROTOTYPE,
+                kind: StepKind::PROTOTYPE,
                 label: to,
                 attributes: 0,
             },
@@ -252,7 +249,7 @@ pub fn change_steps(
         steps,
         back.start,
         StepRecord {
-            kind: INSERT,
+            kind: StepKind::INSERT,
             label: key,
             attributes: attributes.0 as u32,
         },

@@ -9,6 +9,7 @@ use borrow.Author.Tests.{eqb-true, leb-true, not-true}
 use lib.Dec.{eqb, leb}
 use lib.ListN.{length}
 use Rattle.slot.specs.If.{if_then_else_}
+use Rattle.slot.specs.Attributes.{mostStored, goodAttributes}
 use Rattle.store.specs.Lists.{at}
 use Rattle.store.specs.Model.{free, used, Model, noShape, noEdge, freeShape, freeTable, freeEdge}
 use Rattle.store.specs.Model.{shapeAt, tableAt, edgeAt}
@@ -18,13 +19,16 @@ use Rattle.store.specs.Image.{Place}
 use Rattle.store.specs.declared.Shape.{Shape}
 use Rattle.store.specs.declared.Entry.{Entry}
 use Rattle.store.specs.declared.Edge.{Edge}
-use Rattle.rules.specs.Shapes.{shared, unique, tableOf}
-use Rattle.rules.specs.Sound.{eachShape, onTable, eachTable, eachEdge, inRange, tableInUse, countsFit}
+use Rattle.rules.specs.Numbers.{goodKey}
+use Rattle.rules.specs.Shapes.{sharedState, uniqueState, shared, unique, tableOf}
+use Rattle.rules.specs.Steps.{prototypeStepKind, propertyEdgeKind, prototypeEdgeKind}
+use Rattle.rules.specs.Sound.{eachShape, onTable, eachTable, eachEdge, shapeRanged, inRange, tableInUse}
+use Rattle.rules.specs.Sound.{countsFit, goodLabel}
 
 -- ## Each record in use
 
 pub shared-used : (s : Shape) → shared s ≡ true → freeShape s ≡ false
-shared-used s h = ap (λ (x : ℕ). eqb x 0) (eqb-true (s .state) 1 h)
+shared-used s h = ap (λ (x : ℕ). eqb x 0) (eqb-true (s .state) sharedState h)
 
 module _ (m : Model) where
   pub each-shape : (test : ℕ → Shape → Bool) → eachShape m test ≡ true
@@ -52,35 +56,33 @@ module _ (m : Model) where
 -- ## In range
 
 pub record ShapeRanges (m : Model) (s : Shape) : Type 0 where
-  pub state : s .state ≤ 2
-  pub step : s .step ≤ 2
+  pub state : s .state ≤ uniqueState
+  pub step : s .step ≤ prototypeStepKind
   pub previous : s .previous ≤ length (m .shapes)
   pub table : s .table ≤ length (m .tables)
 
 pub record EdgeRanges (m : Model) (e : Edge) : Type 0 where
-  pub kind : e .kind ≤ 1
+  pub kind : e .kind ≤ prototypeEdgeKind
   pub parent : e .parent ≤ length (m .shapes)
   pub child : e .child ≤ length (m .shapes)
 
 module _ (m : Model) (ranged : inRange m ≡ true) where
-  abbrev shapeRanges : Shape → Bool
-  shapeRanges s =
-      leb (s .state) 2
-      && leb (s .step) 2
-      && leb (s .previous) (length (m .shapes))
-      && leb (s .table) (length (m .tables))
+  abbrev itsRange : Shape → Bool
+  itsRange = shapeRanged (length (m .shapes)) (length (m .tables))
 
   pub shape-ranges : (n : ℕ) → freeShape (shapeAt m n) ≡ false → ShapeRanges m (shapeAt m n)
   unfolding inRange
   shape-ranges n u =
       let s = shapeAt m n in
-      let its = each-shape m (λ k s. shapeRanges s) (and-both _ ranged .0) n u in
-      let (front, table) = and-both (leb (s .state) 2 && leb (s .step) 2 && leb (s .previous) _) its in
-      let (kinds, previous) = and-both (leb (s .state) 2 && leb (s .step) 2) front in
-      let (state, step) = and-both (leb (s .state) 2) kinds in
+      let its = each-shape m (λ k s. itsRange s) (and-both _ ranged .0) n u in
+      let in-state = leb (s .state) uniqueState in
+      let in-step = leb (s .step) prototypeStepKind in
+      let (front, table) = and-both (in-state && in-step && leb (s .previous) _) its in
+      let (kinds, previous) = and-both (in-state && in-step) front in
+      let (state, step) = and-both in-state kinds in
       record {
-        state = leb-true (s .state) 2 state;
-        step = leb-true (s .step) 2 step;
+        state = leb-true (s .state) uniqueState state;
+        step = leb-true (s .step) prototypeStepKind step;
         previous = leb-true (s .previous) _ previous;
         table = leb-true (s .table) _ table;
       }
@@ -89,14 +91,29 @@ module _ (m : Model) (ranged : inRange m ≡ true) where
   unfolding inRange
   edge-ranges k u =
       let e = edgeAt m k in
-      let (_, edges) = and-both (eachShape m (λ n s. shapeRanges s)) ranged in
-      let (front, child) = and-both (leb (e .kind) 1 && leb (e .parent) _) (each-edge m _ edges k u) in
-      let (kind, parent) = and-both (leb (e .kind) 1) front in
+      let (_, edges) = and-both (eachShape m (λ n s. itsRange s)) ranged in
+      let in-kind = leb (e .kind) prototypeEdgeKind in
+      let (front, child) = and-both (in-kind && leb (e .parent) _) (each-edge m _ edges k u) in
+      let (kind, parent) = and-both in-kind front in
       record {
-        kind = leb-true (e .kind) 1 kind;
+        kind = leb-true (e .kind) prototypeEdgeKind kind;
         parent = leb-true (e .parent) _ parent;
         child = leb-true (e .child) _ child;
       }
+
+-- ## Labels
+
+-- "its attributes up to 31", and "attributes 0" for a prototype
+pub label-attributes : (es : List Entry) (e : Edge) → goodLabel es e ≡ true → e .attributes ≤ mostStored
+label-attributes es e h = go (eqb (e .kind) propertyEdgeKind) refl
+  where
+    go : (b : Bool) → eqb (e .kind) propertyEdgeKind ≡ b → e .attributes ≤ mostStored
+    go true property =
+        let most = and-both (goodKey (e .label) && goodAttributes (e .attributes)) (rw property at h) .0 in
+        leb-true (e .attributes) mostStored (and-both (goodKey (e .label)) most .1)
+    go false other =
+        let none = eqb-true (e .attributes) 0 (rw other at h) in
+        omega arith
 
 -- ## Tables and counts
 

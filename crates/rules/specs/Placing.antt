@@ -5,8 +5,6 @@ use mathlib.Core.Logic.{_≢_}
 use mathlib.Core.Path.{_≡_, _∙_, ap}
 use Prim.Native.Nat.{ℕ}
 use borrow.Author.Tests.{ne-eqb}
-use lib.Dec.{eqb}
-use Rattle.slot.specs.If.{if_then_else_}
 use Rattle.store.specs.Model.{Model}
 use Rattle.store.specs.Image.{Becomes, and-then}
 use Rattle.rules.specs.declared.StepRecord.{StepRecord}
@@ -14,25 +12,23 @@ use Rattle.rules.specs.declared.Refusal.{Refusal}
 use Rattle.rules.specs.declared.Placement.{Placement}
 use Rattle.rules.specs.declared.Placement.the-variants.{At, Refused}
 use Rattle.rules.specs.Refusals.{Got, ok, refused}
-use Rattle.rules.specs.Steps.{Step, insert, configure, prototype, Placed}
+use Rattle.rules.specs.Steps.{Step, insert, configure, prototype, insertStepKind, configureStepKind}
+use Rattle.rules.specs.Steps.{stepOfKind, Placed}
 
--- "step kind (0 insert, 1 configure, 2 prototype)"
+-- The step that a record says.
 abbrev pub stepIn : StepRecord → Step
-stepIn t =
-    if eqb (t .kind) 0 then insert (t .label) (t .attributes)
-    else if eqb (t .kind) 1 then configure (t .label) (t .attributes)
-    else prototype (t .label)
+stepIn t = stepOfKind (t .kind) (t .label) (t .attributes)
 
 -- What its kind says.
 module _ (t : StepRecord) where
-  pub is-insert : t .kind ≡ 0 → stepIn t ≡ insert (t .label) (t .attributes)
+  pub is-insert : t .kind ≡ insertStepKind → stepIn t ≡ insert (t .label) (t .attributes)
   is-insert e = rw e
 
-  pub is-configure : t .kind ≡ 1 → stepIn t ≡ configure (t .label) (t .attributes)
+  pub is-configure : t .kind ≡ configureStepKind → stepIn t ≡ configure (t .label) (t .attributes)
   is-configure e = rw e
 
-  pub is-prototype : t .kind ≢ 0 → t .kind ≢ 1 → stepIn t ≡ prototype (t .label)
-  is-prototype a b = rw (ne-eqb (t .kind) 0 a, ne-eqb (t .kind) 1 b)
+  pub is-prototype : t .kind ≢ insertStepKind → t .kind ≢ configureStepKind → stepIn t ≡ prototype (t .label)
+  is-prototype a b = rw (ne-eqb (t .kind) insertStepKind a, ne-eqb (t .kind) configureStepKind b)
 
 -- A result is written, and answered as `given` says it; "Every one" of the refusals "leaves all lent words
 -- unchanged, prunes included".

@@ -58,11 +58,17 @@ pairs (e ∷ es) = e .key ∷ e .attributes ∷ pairs es
 -- ## Shapes
 
 -- "state (1 shared, 2 unique)"
+abbrev pub sharedState : ℕ
+sharedState = 1
+
+abbrev pub uniqueState : ℕ
+uniqueState = 2
+
 abbrev pub shared : Shape → Bool
-shared s = eqb (s .state) 1
+shared s = eqb (s .state) sharedState
 
 abbrev pub unique : Shape → Bool
-unique s = eqb (s .state) 2
+unique s = eqb (s .state) uniqueState
 
 abbrev pub isRoot : Shape → Bool
 isRoot s = shared s && eqb (s .previous) 0
@@ -93,10 +99,10 @@ standing state h n p t =
     }
 
 abbrev pub rootShape : (table : ℕ) → Shape
-rootShape t = standing 1 0 0 0 t
+rootShape t = standing sharedState 0 0 0 t
 
 abbrev pub uniqueShape : (holds properties prototype table : ℕ) → Shape
-uniqueShape h n p t = standing 2 h n p t
+uniqueShape h n p t = standing uniqueState h n p t
 
 -- A shape with other holds, counters or property count.
 abbrev pub withHolds : Shape → ℕ → Shape

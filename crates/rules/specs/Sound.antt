@@ -15,9 +15,9 @@ use Rattle.store.specs.declared.Entry.{Entry}
 use Rattle.store.specs.declared.Edge.{Edge}
 use Rattle.rules.specs.Numbers.{goodKey}
 use Rattle.rules.specs.Shapes.{has, attributesIn, pairs, shared, unique, isRoot, isChild, tableOf}
-use Rattle.rules.specs.Shapes.{entries}
-use Rattle.rules.specs.Steps.{Step, insert, configure, prototype, mayStep, stepEntries, stepPrototype}
-use Rattle.rules.specs.Steps.{edgeKind, alike}
+use Rattle.rules.specs.Shapes.{entries, uniqueState}
+use Rattle.rules.specs.Steps.{Step, mayStep, stepEntries, stepPrototype, prototypeStepKind, stepOfKind}
+use Rattle.rules.specs.Steps.{propertyEdgeKind, prototypeEdgeKind, edgeKind, alike}
 
 -- ## Each record in use
 
@@ -43,12 +43,18 @@ eachEdge m test = every (λ e. freeEdge e || test e) (m .edges)
 -- ## The sentences
 
 -- "States, kinds and places are in range;"
+abbrev pub shapeRanged : (S T : ℕ) → Shape → Bool
+shapeRanged S T s =
+    leb (s .state) uniqueState && leb (s .step) prototypeStepKind && leb (s .previous) S && leb (s .table) T
+
+abbrev pub edgeRanged : (S : ℕ) → Edge → Bool
+edgeRanged S e = leb (e .kind) prototypeEdgeKind && leb (e .parent) S && leb (e .child) S
+
 unfoldable pub inRange : Model → Bool
 inRange m =
     let S = length (m .shapes) in
     let T = length (m .tables) in
-    eachShape m (λ n s. leb (s .state) 2 && leb (s .step) 2 && leb (s .previous) S && leb (s .table) T)
-    && eachEdge m (λ e. leb (e .kind) 1 && leb (e .parent) S && leb (e .child) S)
+    eachShape m (λ n s. shapeRanged S T s) && eachEdge m (edgeRanged S)
 
 -- "a shape's table is in use;"
 unfoldable pub tableInUse : Model → Bool
@@ -119,10 +125,7 @@ childrenLinked m =
 
 -- The step that an edge names, with its child's step kind.
 abbrev pub stepOf : (kind : ℕ) → Edge → Step
-stepOf kind e =
-    if eqb kind 0 then insert (e .label) (e .attributes)
-    else if eqb kind 1 then configure (e .label) (e .attributes)
-    else prototype (e .label)
+stepOf kind e = stepOfKind kind (e .label) (e .attributes)
 
 -- The step leads from keys es and prototype p to keys fs and prototype q.
 abbrev pub leads : Step → (es : List Entry) (p : ℕ) (fs : List Entry) (q : ℕ) → Bool
@@ -148,7 +151,7 @@ edgesDiffer m = noTwoAlike (m .edges)
 -- a prototype edge has any prototype and attributes 0"
 abbrev pub goodLabel : List Entry → Edge → Bool
 goodLabel es e =
-    if eqb (e .kind) 0
+    if eqb (e .kind) propertyEdgeKind
     then goodKey (e .label)
     && goodAttributes (e .attributes)
     && (not (has (e .label) es) || sameWidth (attributesIn (e .label) es) (e .attributes))

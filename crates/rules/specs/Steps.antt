@@ -18,7 +18,7 @@ use Rattle.store.specs.declared.Edge.{Edge}
 use Rattle.rules.specs.declared.Refusal.the-variants.{KeysFull, ShapesFull, TablesFull, EdgesFull}
 use Rattle.rules.specs.Refusals.{Got, ok, _>>=_, _>>_, refuse, place}
 use Rattle.rules.specs.Shapes.{isKey, has, attributesIn, appended, configured, tableOf, entries}
-use Rattle.rules.specs.Shapes.{uniqueShape, withCounters}
+use Rattle.rules.specs.Shapes.{sharedState, uniqueShape, withCounters}
 
 -- ## A step
 
@@ -28,16 +28,39 @@ pub data Step : Type 0 where
   prototype : (to : ℕ) → Step
 
 -- "step kind (0 insert, 1 configure, 2 prototype)"
-abbrev pub stepKind : Step → ℕ
-stepKind (insert k a) = 0
-stepKind (configure k a) = 1
-stepKind (prototype p) = 2
+abbrev pub insertStepKind : ℕ
+insertStepKind = 0
 
--- "Edge, 5 words: parent, kind (0 property, 1 prototype), key or prototype, attributes (0 for prototype), child"
+abbrev pub configureStepKind : ℕ
+configureStepKind = 1
+
+abbrev pub prototypeStepKind : ℕ
+prototypeStepKind = 2
+
+abbrev pub stepKind : Step → ℕ
+stepKind (insert k a) = insertStepKind
+stepKind (configure k a) = configureStepKind
+stepKind (prototype p) = prototypeStepKind
+
+-- The step of a kind, with a key and attributes or with a prototype.
+abbrev pub stepOfKind : (kind label attributes : ℕ) → Step
+stepOfKind kind label a =
+    if eqb kind insertStepKind then insert label a
+    else if eqb kind configureStepKind then configure label a
+    else prototype label
+
+-- "Edge, 5 words: parent, kind (0 property, 1 prototype), key or prototype, attributes (0 for prototype),
+-- child (0 dead)."
+abbrev pub propertyEdgeKind : ℕ
+propertyEdgeKind = 0
+
+abbrev pub prototypeEdgeKind : ℕ
+prototypeEdgeKind = 1
+
 abbrev pub edgeKind : Step → ℕ
-edgeKind (insert k a) = 0
-edgeKind (configure k a) = 0
-edgeKind (prototype p) = 1
+edgeKind (insert k a) = propertyEdgeKind
+edgeKind (configure k a) = propertyEdgeKind
+edgeKind (prototype p) = prototypeEdgeKind
 
 abbrev pub edgeLabel : Step → ℕ
 edgeLabel (insert k a) = k
@@ -99,11 +122,11 @@ abbrev pub prune : (parent kind : ℕ) → List Edge → List Edge
 prune n kind es = map (λ e. if dead n kind e then noEdge else e) es
 
 abbrev pub counter : (kind : ℕ) → Counters → ℕ
-counter kind c = if eqb kind 0 then c .property else c .prototype
+counter kind c = if eqb kind propertyEdgeKind then c .property else c .prototype
 
 abbrev pub setCounter : (kind : ℕ) → ℕ → Counters → Counters
 setCounter kind n c =
-    if eqb kind 0
+    if eqb kind propertyEdgeKind
     then record { property = n; prototype = c .prototype }
     else record { property = c .property; prototype = n }
 
@@ -151,7 +174,7 @@ childTable m s (prototype p) = ok (m, s .table)
 abbrev pub childShape : (parent : ℕ) → Shape → Step → (table : ℕ) → Shape
 childShape n s t table =
     record {
-      state = 1;
+      state = sharedState;
       holds = 0;
       previous = n;
       step = stepKind t;
@@ -200,14 +223,14 @@ unfoldable pub chain : Model → ℕ → List ℕ
 chain m n = backward (shapeAt m n .transitions) m n
 
 abbrev pub prototypeStep : Shape → Bool
-prototypeStep s = eqb (s .step) 2
+prototypeStep s = eqb (s .step) prototypeStepKind
 
 abbrev pub lastOf : Model → Shape → Entry
 lastOf m s = last (entries m s) noEntry
 
 -- The shape was made by the insert step of the key.
 abbrev pub inserts : Model → ℕ → Shape → Bool
-inserts m k s = eqb (s .step) 0 && isKey k (lastOf m s)
+inserts m k s = eqb (s .step) insertStepKind && isKey k (lastOf m s)
 
 -- "prototype steps are passed, remembering the newest", which is met first.
 abbrev pub remember : Shape → List Step → List Step

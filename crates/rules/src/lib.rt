@@ -38,7 +38,7 @@ pub enum ChangeTransitionAction {
 
 // One step of a trail: document 01's step kind, the key or the prototype, and the attributes.
 pub struct StepRecord {
-    // 0 insert, 1 configure, 2 prototype
+    // a StepKind
     pub kind: u32,
     pub label: u32,
     // not looked at for a prototype

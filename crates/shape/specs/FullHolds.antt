@@ -8,7 +8,7 @@ use Prim.Native.Nat.{ℕ, _≤_}
 use borrow.Author.Tests.{le-leb}
 use lib.Dec.{eqb, leb}
 use Rattle.slot.specs.If.{if_then_else_}
-use Rattle.slot.specs.Attributes.{sameWidth}
+use Rattle.slot.specs.Attributes.{mostStored, sameWidth}
 use Rattle.store.specs.Model.{Model, shapeAt}
 use Rattle.store.specs.Layout.{parse}
 use Rattle.store.specs.ListLaws.{Decided, either}
@@ -50,7 +50,7 @@ same-number {m} sound {n} {o} {y} c at =
 module _ (ws : List ℕ) (sound : Sound (parse ws)) (n : ℕ) (may : unheld (parse ws) n ≡ false)
     (isUnique : unique (shapeAt (parse ws) n) ≡ true)
     (full : leb 65535 (shapeAt (parse ws) n .holds) ≡ true)
-    (k a : ℕ) (good : goodKey k ≡ true) (low : a ≤ 31) where
+    (k a : ℕ) (good : goodKey k ≡ true) (low : a ≤ mostStored) where
   abbrev m : Model
   m = parse ws
 
@@ -78,7 +78,7 @@ module _ (ws : List ℕ) (sound : Sound (parse ws)) (n : ℕ) (may : unheld (par
     where
       gives : (y : Placed) → inserted m n k a ≡ ok y → ChangesTo m n (byInsert m n k a) y × (y .1 ≡ n)
       gives y e =
-          let c = inserted-gives m sound n (may-act m sound n may) k a good (le-leb a 31 low) absent y e in
+          let c = inserted-gives m sound n (may-act m sound n may) k a good (le-leb a mostStored low) absent y e in
           (c, c .ofUnique isUnique .1)
 
       go : Decided (eqb (s .properties) (m .K))
@@ -97,5 +97,5 @@ module _ (ws : List ℕ) (sound : Sound (parse ws)) (n : ℕ) (may : unheld (par
     where
       gives : (y : Placed) → changed m n k a ≡ ok y → ChangesTo m n (byChange m n k a) y × (y .1 ≡ n)
       gives y e =
-          let c = changed-gives m sound n (may-act m sound n may) k a good (le-leb a 31 low) held y e in
+          let c = changed-gives m sound n (may-act m sound n may) k a good (le-leb a mostStored low) held y e in
           (c, rw wide at (c .ofUnique isUnique .1))

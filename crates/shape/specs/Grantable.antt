@@ -10,7 +10,7 @@ use borrow.Author.Tests.{leb-false, le-leb}
 use lib.Dec.{leb}
 use lib.ListN.{length}
 use Rattle.slot.specs.If.{if_then_else_}
-use Rattle.slot.specs.Attributes.{sameWidth}
+use Rattle.slot.specs.Attributes.{mostStored, sameWidth}
 use Rattle.store.specs.Model.{Model, shapeAt}
 use Rattle.store.specs.Layout.{parse}
 use Rattle.store.specs.ListLaws.{Decided, either}
@@ -117,7 +117,7 @@ module _ (m : Model) (sound : Sound m) (n : ℕ) (may : unheld m n ≡ false) wh
   replaced-unwritten q p fs = new-unwritten m (emptied m n q) (uniqueShape 0 (length fs) p) fs (λ t. refl)
 
   module _ (k : ℕ) where
-    module _ (a : ℕ) (good : goodKey k ≡ true) (low : a ≤ 31) where
+    module _ (a : ℕ) (good : goodKey k ≡ true) (low : a ≤ mostStored) where
       pub insert-grantable : has k es ≡ false
           → (unique (shapeAt m n) && leb 65535 (shapeAt m n .holds)) ≡ false → Grantable m (inserted m n k a)
       insert-grantable absent room =
@@ -131,7 +131,7 @@ module _ (m : Model) (sound : Sound m) (n : ℕ) (may : unheld m n ≡ false) wh
           }
         where
           gives : (y : Placed) → inserted m n k a ≡ ok y → ChangesTo m n (byInsert m n k a) y
-          gives = inserted-gives m sound n acts k a good (le-leb a 31 low) absent
+          gives = inserted-gives m sound n acts k a good (le-leb a mostStored low) absent
 
       pub change-grantable : has k es ≡ true
           → (unique (shapeAt m n) && sameWidth (attributesIn k es) a && leb 65535 (shapeAt m n .holds)) ≡ false
@@ -144,7 +144,7 @@ module _ (m : Model) (sound : Sound m) (n : ℕ) (may : unheld m n ≡ false) wh
           }
         where
           gives : (y : Placed) → changed m n k a ≡ ok y → ChangesTo m n (byChange m n k a) y
-          gives = changed-gives m sound n acts k a good (le-leb a 31 low) holds
+          gives = changed-gives m sound n acts k a good (le-leb a mostStored low) holds
 
           go : Decided (sameWidth (attributesIn k es) a) → Unwritten m (changed m n k a)
           go (inl wide) =

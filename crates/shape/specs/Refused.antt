@@ -5,6 +5,7 @@ use mathlib.Core.List.{List, []}
 use mathlib.Core.Path.{_≡_, refl, ap}
 use Prim.Native.Nat.{ℕ, _≤_, _<_}
 use borrow.Author.Tests.{lt-leb, le-leb, not-false}
+use Rattle.slot.specs.Attributes.{mostStored}
 use Rattle.store.specs.Model.{Model, shapeAt}
 use Rattle.store.specs.Layout.{parse}
 use Rattle.rules.specs.declared.ChangeTransitionAction.the-variants.{Nothing}
@@ -46,44 +47,44 @@ module _ (ws : List ℕ) (n : ℕ) where
     change-bad-key bad = rw bad (refl, refl)
 
     module _ (good : goodKey k ≡ true) where
-      pub insert-bad-attributes : 31 < a → Answers ws ws (perform m (insertKey n k a)) (No BadAttributes)
+      pub insert-bad-attributes : mostStored < a → Answers ws ws (perform m (insertKey n k a)) (No BadAttributes)
       unfolding perform
-      insert-bad-attributes high = rw (good, lt-leb a 31 high) (refl, refl)
+      insert-bad-attributes high = rw (good, lt-leb a mostStored high) (refl, refl)
 
-      pub change-bad-attributes : 31 < a → Answers ws ws (perform m (changeKey n k a)) (No BadAttributes)
+      pub change-bad-attributes : mostStored < a → Answers ws ws (perform m (changeKey n k a)) (No BadAttributes)
       unfolding perform
-      change-bad-attributes high = rw (good, lt-leb a 31 high) (refl, refl)
+      change-bad-attributes high = rw (good, lt-leb a mostStored high) (refl, refl)
 
-      module _ (low : a ≤ 31) where
+      module _ (low : a ≤ mostStored) where
         pub insert-no-shape : unheld m n ≡ true → Answers ws ws (perform m (insertKey n k a)) (No NoShape)
         unfolding perform
-        insert-no-shape none = rw (good, le-leb a 31 low, none) (refl, refl)
+        insert-no-shape none = rw (good, le-leb a mostStored low, none) (refl, refl)
 
         pub change-no-shape : unheld m n ≡ true → Answers ws ws (perform m (changeKey n k a)) (No NoShape)
         unfolding perform
-        change-no-shape none = rw (good, le-leb a 31 low, none) (refl, refl)
+        change-no-shape none = rw (good, le-leb a mostStored low, none) (refl, refl)
 
         module _ (may : unheld m n ≡ false) where
           pub insert-present : has k (entriesAt m n) ≡ true
               → Answers ws ws (perform m (insertKey n k a)) (No Present)
           unfolding perform
-          insert-present held = rw (good, le-leb a 31 low, may, held) (refl, refl)
+          insert-present held = rw (good, le-leb a mostStored low, may, held) (refl, refl)
 
           pub insert-is : has k (entriesAt m n) ≡ false
               → perform m (insertKey n k a) ≡ thenGrant Nothing (inserted m n k a)
           unfolding perform
-          insert-is absent = rw (good, le-leb a 31 low, may, absent)
+          insert-is absent = rw (good, le-leb a mostStored low, may, absent)
 
           pub change-absent : has k (entriesAt m n) ≡ false
               → Answers ws ws (perform m (changeKey n k a)) (No Absent)
           unfolding perform
-          change-absent absent = rw (good, le-leb a 31 low, may, absent) (refl, refl)
+          change-absent absent = rw (good, le-leb a mostStored low, may, absent) (refl, refl)
 
           pub change-is : has k (entriesAt m n) ≡ true
               → perform m (changeKey n k a)
               ≡ thenGrant (actionFor (attributesIn k (entriesAt m n)) a) (changed m n k a)
           unfolding perform
-          change-is held = rw (good, le-leb a 31 low, may, held)
+          change-is held = rw (good, le-leb a mostStored low, may, held)
 
   -- ## Removal
 

@@ -4,6 +4,7 @@ use mathlib.Core.Bool.{true, false, not}
 use mathlib.Core.Path.{_≡_, refl, _∙_, ap}
 use Prim.Native.Nat.{ℕ, _≤_}
 use borrow.Author.Tests.{le-leb}
+use Rattle.slot.specs.Attributes.{mostStored}
 use Rattle.store.specs.Model.{Model, shapeAt}
 use Rattle.store.specs.ListLaws.{both-and}
 use Rattle.rules.specs.Numbers.{goodKey}
@@ -66,9 +67,9 @@ module _ (m : Model) (n : ℕ) where
             label = good-label n t (entriesAt m n) good allowed;
           }
 
-      pub insert-legal : {k a : ℕ} → goodKey k ≡ true → a ≤ 31 → has k (entriesAt m n) ≡ false
+      pub insert-legal : {k a : ℕ} → goodKey k ≡ true → a ≤ mostStored → has k (entriesAt m n) ≡ false
           → Legal m n (insert k a)
-      insert-legal {k} {a} good low absent = legal (insert k a) (both-and good (le-leb a 31 low)) (ap not absent)
+      insert-legal {k} {a} good low absent = legal (insert k a) (both-and good (le-leb a mostStored low)) (ap not absent)
 
       pub prototype-legal : (p : ℕ) → Legal m n (prototype p)
       prototype-legal p = legal (prototype p) refl refl

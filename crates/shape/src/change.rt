@@ -14,6 +14,7 @@ use slot::SlotAttributes;
 ghost use mathlib.Core.Path.{_≡_};
 ghost use mathlib.Core.Bool.{true, false};
 ghost use Prim.Native.Nat.{_≤_};
+ghost use Rattle.slot.specs.Attributes.{mostStored};
 ghost use Rattle.store.specs.Model.{shapeAt};
 ghost use Rattle.store.specs.Layout.{parse};
 ghost use Rattle.store.specs.Image.{Formed};
@@ -31,7 +32,7 @@ fn place(image: &mut [u32], n: u32, key: u32, attributes: SlotAttributes) -> Pla
     requires { ⌜ unheld (parse (now image)) n ≡ false ⌝ }
     requires { ⌜ has key (entries (parse (now image)) (shapeAt (parse (now image)) n)) ≡ true ⌝ }
     requires { ⌜ goodKey key ≡ true ⌝ }
-    requires { ⌜ attributes .0 ≤ 31 ⌝ }
+    requires { ⌜ attributes .0 ≤ mostStored ⌝ }
     ensures { λ r. ⌜
         Places (now (image .entry)) (now (image .exit)) (changed (parse (now (image .entry))) n key (attributes .0)) r
         ⌝ }
@@ -68,7 +69,7 @@ fn change(
     requires { ⌜ unheld (parse (now image)) n ≡ false ⌝ }
     requires { ⌜ has key (entries (parse (now image)) (shapeAt (parse (now image)) n)) ≡ true ⌝ }
     requires { ⌜ goodKey key ≡ true ⌝ }
-    requires { ⌜ attributes .0 ≤ 31 ⌝ }
+    requires { ⌜ attributes .0 ≤ mostStored ⌝ }
     requires { ⌜
         old .0 ≡ attributesIn key (entries (parse (now image)) (shapeAt (parse (now image)) n))
         ⌝ }
@@ -100,7 +101,7 @@ pub fn change_attributes_transition(
     if !good_key(key) {
         return ShapeReply::Refused(Refusal::BadKey);
     }
-    if attributes > 31 {
+    if attributes > SlotAttributes::MOST_STORED {
         return ShapeReply::Refused(Refusal::BadAttributes);
     }
     if !is_held(image, n) {

@@ -15,6 +15,7 @@ use store::image::key_limit;
 ghost use mathlib.Core.Path.{_≡_};
 ghost use mathlib.Core.Bool.{true, false};
 ghost use Prim.Native.Nat.{_≤_};
+ghost use Rattle.slot.specs.Attributes.{mostStored};
 ghost use Rattle.store.specs.Model.{shapeAt};
 ghost use Rattle.store.specs.Layout.{parse};
 ghost use Rattle.store.specs.Image.{Formed};
@@ -34,7 +35,7 @@ fn place(image: &mut [u32], n: u32, key: u32, attributes: SlotAttributes) -> Pla
     requires { ⌜ unheld (parse (now image)) n ≡ false ⌝ }
     requires { ⌜ has key (entries (parse (now image)) (shapeAt (parse (now image)) n)) ≡ false ⌝ }
     requires { ⌜ goodKey key ≡ true ⌝ }
-    requires { ⌜ attributes .0 ≤ 31 ⌝ }
+    requires { ⌜ attributes .0 ≤ mostStored ⌝ }
     ensures { λ r. ⌜
         Places (now (image .entry)) (now (image .exit)) (inserted (parse (now (image .entry))) n key (attributes .0)) r
         ⌝ }
@@ -65,7 +66,7 @@ fn insert(image: &mut [u32], n: u32, key: u32, attributes: SlotAttributes) -> Sh
     requires { ⌜ unheld (parse (now image)) n ≡ false ⌝ }
     requires { ⌜ has key (entries (parse (now image)) (shapeAt (parse (now image)) n)) ≡ false ⌝ }
     requires { ⌜ goodKey key ≡ true ⌝ }
-    requires { ⌜ attributes .0 ≤ 31 ⌝ }
+    requires { ⌜ attributes .0 ≤ mostStored ⌝ }
     ensures { λ r. ⌜
         Answers (now (image .entry)) (now (image .exit))
         (thenGrant Nothing (inserted (parse (now (image .entry))) n key (attributes .0))) (shapeReply r)
@@ -94,7 +95,7 @@ pub fn insert_property_transition(
     if !good_key(key) {
         return ShapeReply::Refused(Refusal::BadKey);
     }
-    if attributes > 31 {
+    if attributes > SlotAttributes::MOST_STORED {
         return ShapeReply::Refused(Refusal::BadAttributes);
     }
     if !is_held(image, n) {

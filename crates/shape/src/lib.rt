@@ -7,6 +7,7 @@ use property_table::OptionalProperty;
 use property_table::find;
 use rules::ChangeTransitionAction;
 use rules::ShapeReply;
+use store::ShapeState;
 use store::image::get_shape;
 ghost use mathlib.Core.Path.{_≡_};
 ghost use mathlib.Core.Bool.{false};
@@ -23,15 +24,13 @@ pub mod insert;
 pub mod prototype;
 pub mod remove;
 
-const UNIQUE: u32 = 2;
-
 fn is_unique(image: &[u32], n: u32) -> bool
     requires { ⌜ Formed (now image) ⌝ }
     requires { ⌜ unheld (parse (now image)) n ≡ false ⌝ }
     ensures { λ r. ⌜ r ≡ unique (shapeAt (parse (now (image .entry))) n) ⌝ }
 {
     let s = get_shape(image, n);
-    s.state == UNIQUE
+    s.state == ShapeState::UNIQUE
 }
 
 fn has_key(image: &[u32], n: u32, key: u32) -> bool

@@ -6,7 +6,7 @@ use mathlib.Core.Path.{_≡_, _∙_}
 use Prim.Native.Nat.{ℕ, _≤_, _<_}
 use native.Mathlib.Omega.{arith}
 use borrow.Author.Tests.{le-leb}
-use Rattle.slot.specs.Attributes.{sameWidth}
+use Rattle.slot.specs.Attributes.{mostStored, sameWidth}
 use Rattle.store.specs.Model.{Model, shapeAt}
 use Rattle.store.specs.ListLaws.{both-and, not-both}
 use Rattle.store.specs.declared.Entry.{Entry}
@@ -52,12 +52,12 @@ module _ (m : Model) (sound : Sound m) (n k : ℕ) (isShared : SharedAt m n)
       unfolding removeShared
       removal-is = rw (from, these)
 
-    module _ {a : ℕ} (low : a ≤ 31) {ts : List Step} (these : ts ≡ b .newest ++ insert k a ∷ b .yielded) where
+    module _ {a : ℕ} (low : a ≤ mostStored) {ts : List Step} (these : ts ≡ b .newest ++ insert k a ∷ b .yielded) where
       pub change-legal : LegalSteps ts m base
       change-legal =
           rw (from, these)
           (legal-steps (b .newest ++ insert k a ∷ b .yielded) m sound (b .base) (rolled .found .baseShared)
-          (rolled .change a (le-leb a 31 low) .legal) (omega (arith, rolled .noLonger a, most)))
+          (rolled .change a (le-leb a mostStored low) .legal) (omega (arith, rolled .noLonger a, most)))
 
       pub change-is : sameWidth (attributesIn k (entriesAt m n)) a ≡ false
           → steps ts m base ≡ changeShared m n k a
@@ -65,14 +65,14 @@ module _ (m : Model) (sound : Sound m) (n k : ℕ) (isShared : SharedAt m n)
       change-is other = rw (from, these, other)
 
   module _ (a : ℕ) (wide : sameWidth (attributesIn k (entriesAt m n)) a ≡ true) where
-    pub configure-legal : transitionsAt m n < 1024 → goodKey k ≡ true → a ≤ 31 → Legal m n (configure k a)
+    pub configure-legal : transitionsAt m n < 1024 → goodKey k ≡ true → a ≤ mostStored → Legal m n (configure k a)
     configure-legal below good low =
         let may = both-and holds wide in
         record {
           isShared = isShared;
           below = below;
           may = may;
-          label = good-label n (configure k a) (entriesAt m n) (both-and good (le-leb a 31 low)) may;
+          label = good-label n (configure k a) (entriesAt m n) (both-and good (le-leb a mostStored low)) may;
         }
 
     pub configure-is : step m n (configure k a) ≡ changeShared m n k a

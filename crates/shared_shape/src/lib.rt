@@ -11,12 +11,13 @@ use rules::StepRecord;
 use shared_step::take_steps;
 use slot::SlotAttributes;
 use steps::put_step;
+use store::StepKind;
 use store::image::get_shape;
 ghost use mathlib.Core.Path.{_≡_};
 ghost use mathlib.Core.Bool.{true, false};
 ghost use Prim.Native.Nat.{_≤_, _<_};
 ghost use lib.ListN.{length, drop};
-ghost use Rattle.slot.specs.Attributes.{sameWidth};
+ghost use Rattle.slot.specs.Attributes.{mostStored, sameWidth};
 ghost use Rattle.store.specs.Layout.{parse};
 ghost use Rattle.store.specs.Image.{Formed};
 ghost use Rattle.rules.specs.Numbers.{goodKey};
@@ -29,12 +30,6 @@ ghost use Rattle.theorems.specs.Facts.{Sound};
 ghost use Rattle.theorems.specs.Child.{Legal};
 ghost use Rattle.theorems.specs.Made.{SharedAt, entriesAt, transitionsAt};
 ghost use Rattle.plan.specs.PlanRight.{LegalSteps};
-
-const INSERT: u32 = 0;
-
-const CONFIGURE: u32 = 1;
-
-const PROTOTYPE: u32 = 2;
 
 const MOST_TRANSITIONS: u32 = 1024;
 
@@ -108,7 +103,7 @@ pub fn insert_property_transition(
         image,
         n,
         StepRecord {
-            kind: INSERT,
+            kind: StepKind::INSERT,
             label: key,
             attributes: attributes.0 as u32,
         },
@@ -129,7 +124,7 @@ pub fn change_prototype_transition(image: &mut [u32], n: u32, to: u32) -> Placem
         image,
         n,
         StepRecord {
-            kind: PROTOTYPE,
+            kind: StepKind::PROTOTYPE,
             label: to,
             attributes: 0,
         },
@@ -157,7 +152,7 @@ fn change_width(image: &mut [u32], n: u32, key: u32, attributes: SlotAttributes)
     requires { ⌜ Sound (parse (now image)) ⌝ }
     requires { ⌜ SharedAt (parse (now image)) n ⌝ }
     requires { ⌜ has key (entriesAt (parse (now image)) n) ≡ true ⌝ }
-    requires { ⌜ attributes .0 ≤ 31 ⌝ }
+    requires { ⌜ attributes .0 ≤ mostStored ⌝ }
     requires { ⌜ sameWidth (attributesIn key (entriesAt (parse (now image)) n)) (attributes .0) ≡ false ⌝ }
     ensures { λ r. ⌜
         Places (now (image .entry)) (now (image .exit))
@@ -200,7 +195,7 @@ pub fn change_attributes_transition(
     requires { ⌜ transitionsAt (parse (now image)) n < 1024 ⌝ }
     requires { ⌜ has key (entriesAt (parse (now image)) n) ≡ true ⌝ }
     requires { ⌜ goodKey key ≡ true ⌝ }
-    requires { ⌜ attributes .0 ≤ 31 ⌝ }
+    requires { ⌜ attributes .0 ≤ mostStored ⌝ }
     ensures { λ r. ⌜
         Places (now (image .entry)) (now (image .exit))
         (thenLimit (changeShared (parse (now (image .entry))) n key (attributes .0))) r
@@ -213,7 +208,7 @@ pub fn change_attributes_transition(
         image,
         n,
         StepRecord {
-            kind: CONFIGURE,
+            kind: StepKind::CONFIGURE,
             label: key,
             attributes: attributes.0 as u32,
         },

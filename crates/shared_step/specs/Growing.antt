@@ -9,7 +9,7 @@ use native.Mathlib.Omega.{arith}
 use borrow.Author.Tests.{eq-eqb, leb-true}
 use lib.Dec.{eqb}
 use lib.ListN.{length}
-use Rattle.slot.specs.Attributes.{goodAttributes}
+use Rattle.slot.specs.Attributes.{mostStored, goodAttributes}
 use Rattle.store.specs.Lists.{lowest}
 use Rattle.store.specs.Model.{Model, noShape, noEdge, freeShape, freeEdge, shapeAt, tableAt, putShape}
 use Rattle.store.specs.Model.{putEdge}
@@ -85,10 +85,10 @@ grows m n t {c} (y, e) its =
       gave = e ∙ sym (rw free at (d .below));
     }
 
-byte-low : (k a : ℕ) (b : Bool) → (goodKey k && goodAttributes a && b) ≡ true → a ≤ 31
-byte-low k a b h = leb-true a 31 (and-both (goodKey k) (and-both (goodKey k && goodAttributes a) h .0) .1)
+byte-low : (k a : ℕ) (b : Bool) → (goodKey k && goodAttributes a && b) ≡ true → a ≤ mostStored
+byte-low k a b h = leb-true a mostStored (and-both (goodKey k) (and-both (goodKey k && goodAttributes a) h .0) .1)
 
-label-low : (m : Model) (n : ℕ) (t : Step) → Legal m n t → edgeAttributes t ≤ 31
+label-low : (m : Model) (n : ℕ) (t : Step) → Legal m n t → edgeAttributes t ≤ mostStored
 label-low m n (insert k a) legal = byte-low k a _ (legal .label)
 label-low m n (configure k a) legal = byte-low k a _ (legal .label)
 label-low m n (prototype p) legal = omega arith

@@ -12,6 +12,8 @@ use steps::get_step;
 use steps::step_count;
 use store::Counters;
 use store::Shape;
+use store::ShapeState;
+use store::StepKind;
 use store::image::get_shape;
 use store::image::lowest_free_shape;
 use store::image::put_shape;
@@ -28,21 +30,13 @@ ghost use Rattle.theorems.specs.Child.{Legal};
 ghost use Rattle.plan.specs.PlanRight.{LegalSteps};
 ghost use Rattle.steps.specs.Records.{stepsIn};
 
-const INSERT: u32 = 0;
-
-const CONFIGURE: u32 = 1;
-
-const PROTOTYPE: u32 = 2;
-
-const SHARED: u32 = 1;
-
 fn child_shape(parent: u32, s: Shape, t: StepRecord, table: u32) -> Shape
     requires { ⌜ s .transitions ≤ 1024 ⌝ }
     requires { ⌜ s .properties ≤ 2048 ⌝ }
     ensures { λ r. ⌜ r ≡ childShape parent s (stepIn t) table ⌝ }
 {
     let mut child = Shape {
-        state: SHARED,
+        state: ShapeState::SHARED,
         holds: 0,
         previous: parent,
         step: t.kind,
@@ -55,14 +49,14 @@ fn child_shape(parent: u32, s: Shape, t: StepRecord, table: u32) -> Shape
             prototype: 0,
         },
     };
-    if t.kind == INSERT {
+    if t.kind == StepKind::INSERT {
         child.properties = s.properties + 1;
         return child;
     }
-    if t.kind == CONFIGURE {
+    if t.kind == StepKind::CONFIGURE {
         return child;
     }
-    child.step = PROTOTYPE;
+    child.step = StepKind::PROTOTYPE;
     child.prototype = t.label;
     child
 }

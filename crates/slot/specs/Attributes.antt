@@ -1,5 +1,5 @@
 -- Document 01, "Numbers that stand for things": the attribute byte.
--- Every definition is over all bytes; a stored value is 0 to 31, any mixture.
+-- Every definition is over all bytes.
 -- Assumes nothing.
 use mathlib.Core.Bool.{Bool, _&&_, _||_, not}
 use Prim.Native.Nat.{ℕ, _/_, _%_}
@@ -14,8 +14,11 @@ unfoldable pub present : (bit byte : ℕ) → Bool
 present bit byte = eqb (byte / bit % 2) 1
 
 -- "A stored value is 0 to 31, any mixture."
+abbrev pub mostStored : ℕ
+mostStored = 31
+
 abbrev pub goodAttributes : ℕ → Bool
-goodAttributes a = leb a 31
+goodAttributes a = leb a mostStored
 
 -- GET or SET or both are present: the attributes of an accessor.
 unfoldable pub accessor : ℕ → Bool

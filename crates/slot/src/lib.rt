@@ -1,6 +1,6 @@
 // The attribute byte of a property, and the slot that says where its value is stored.
 ghost use mathlib.Core.Path.{_≡_};
-ghost use Prim.Native.Nat.{_<_, _^_};
+ghost use Prim.Native.Nat.{_+_, _<_, _^_};
 ghost use lib.Dec.{T};
 ghost use Rattle.slot.specs.Attributes.{
   present,
@@ -15,6 +15,16 @@ ghost use Rattle.slot.specs.Slots.{oneBit, slotOf, nextIndex};
 
 // Counts storage places. It and a position are two types, so that no sum and no test takes one for the other.
 pub struct SlotIndex(pub u32);
+
+impl SlotIndex {
+    // The storage place past a value of that width.
+    pub fn after(self, width: u32) -> SlotIndex
+        requires { ⌜ self .0 + width < 2 ^ 32 ⌝ }
+        ensures { λ r. ⌜ r .0 ≡ self .0 + width ⌝ }
+    {
+        SlotIndex(self.0 + width)
+    }
+}
 
 // Counts keys.
 pub struct KeyPosition(pub u32);
@@ -41,12 +51,33 @@ impl SlotAttributes {
 
     pub const INLINE_CACHE_BITS: SlotAttributes = SlotAttributes(224);
 
+    // "A stored value is 0 to 31, any mixture." A stored word is wider than a byte.
+    pub const MOST_STORED: u32 = 31;
+
     // One bit only: of a mask of several, "all of them" and "some of them" would be two answers.
     fn contains(self, bit: SlotAttributes) -> bool
         requires { ⌜ T (oneBit 8 (bit .0)) ⌝ }
         ensures { λ r. ⌜ r ≡ present (bit .0) (self .0) ⌝ }
     {
         self.0 & bit.0 != 0
+    }
+
+    pub fn is_writable(self) -> bool
+        ensures { λ r. ⌜ r ≡ present 1 (self .0) ⌝ }
+    {
+        self.contains(SlotAttributes::WRITABLE)
+    }
+
+    pub fn is_enumerable(self) -> bool
+        ensures { λ r. ⌜ r ≡ present 2 (self .0) ⌝ }
+    {
+        self.contains(SlotAttributes::ENUMERABLE)
+    }
+
+    pub fn is_configurable(self) -> bool
+        ensures { λ r. ⌜ r ≡ present 4 (self .0) ⌝ }
+    {
+        self.contains(SlotAttributes::CONFIGURABLE)
     }
 
     pub fn has_get(self) -> bool
@@ -153,9 +184,10 @@ impl Slot {
                 attributes,
             };
         };
+        let index = before.index;
         let width = before.width();
         Slot {
-            index: SlotIndex(before.index.0 + width),
+            index: index.after(width),
             attributes,
         }
     }

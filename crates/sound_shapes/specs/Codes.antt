@@ -8,11 +8,11 @@ use Prim.Native.Nat.{ℕ, zero, suc, _+_, _*_, _/_, _≤_, _<_}
 use native.Mathlib.Nat.{mul-add-div-right, div-eq-of-lt}
 use native.Mathlib.Numerals.{add-one}
 use native.Mathlib.Omega.{arith}
-use borrow.Author.Tests.{eqb-true, eqb-false, eq-eqb, ne-eqb, leb-true}
-use lib.Dec.{eqb, leb}
+use borrow.Author.Tests.{eqb-true, eqb-false, eq-eqb, ne-eqb}
+use lib.Dec.{eqb}
 use lib.ListN.{length, getD}
 use Rattle.slot.specs.If.{if_then_else_}
-use Rattle.slot.specs.Attributes.{goodAttributes}
+use Rattle.slot.specs.Attributes.{mostStored}
 use Rattle.store.specs.Lists.{any, every, zeros}
 use Rattle.store.specs.ListLaws.{and-both, every-place}
 use Rattle.store.specs.Scans.{edge-next}
@@ -21,11 +21,10 @@ use Rattle.store.specs.Layout.{shapeWords, edgeWords}
 use Rattle.store.specs.Model.{Model, noEdge, freeShape, freeEdge, shapeAt, edgeAt}
 use Rattle.store.specs.declared.Entry.{Entry}
 use Rattle.store.specs.declared.Edge.{Edge}
-use Rattle.rules.specs.Numbers.{goodKey}
 use Rattle.rules.specs.Shapes.{shared, entries}
 use Rattle.rules.specs.Steps.{alike}
 use Rattle.rules.specs.Sound.{distinct, noTwoAlike, edgesDiffer, inRange, freeZero, edgesGood, goodLabel}
-use Rattle.rules.specs.InUse.{edge-ranges, each-edge}
+use Rattle.rules.specs.InUse.{edge-ranges, each-edge, label-attributes}
 
 -- ## Definitions
 
@@ -33,7 +32,7 @@ use Rattle.rules.specs.InUse.{edge-ranges, each-edge}
 pub record Coded (e : Edge) : Type 0 where
   pub parents : e .parent ≤ 65535
   pub kinds : e .kind ≤ 1
-  pub attributes : e .attributes ≤ 31
+  pub attributes : e .attributes ≤ mostStored
 
 -- Parent, kind, label and attributes side by side. A free edge has its place for its label.
 abbrev pub edgeCode : (place : ℕ) → Edge → ℕ
@@ -193,17 +192,6 @@ zero-words e h =
     let kind = eqb-true 0 (e .kind) (zero 2) in
     let attributes = eqb-true 0 (e .attributes) (zero 4) in
     record { parents = omega arith; kinds = omega arith; attributes = omega arith }
-
-label-attributes : (es : List Entry) (e : Edge) → goodLabel es e ≡ true → e .attributes ≤ 31
-label-attributes es e h = go (eqb (e .kind) 0) refl
-  where
-    go : (b : Bool) → eqb (e .kind) 0 ≡ b → e .attributes ≤ 31
-    go true property =
-        let most = and-both (goodKey (e .label) && goodAttributes (e .attributes)) (rw property at h) .0 in
-        leb-true (e .attributes) 31 (and-both (goodKey (e .label)) most .1)
-    go false other =
-        let none = eqb-true (e .attributes) 0 (rw other at h) in
-        omega arith
 
 pub edge-coded : {m : Model} → length (m .shapes) ≤ 65535 → EdgesKnown m → (k : ℕ) → Coded (edgeAt m k)
 unfolding freeZero edgesGood edgeAt

@@ -10,7 +10,7 @@ use borrow.Author.Tests.{eqb-true, eqb-false, eq-eqb, ne-eqb, leb-true, le-leb, 
 use lib.Dec.{eqb, leb}
 use lib.ListN.{length, getD}
 use Rattle.slot.specs.If.{if_then_else_}
-use Rattle.slot.specs.Attributes.{goodAttributes, sameWidth}
+use Rattle.slot.specs.Attributes.{mostStored, goodAttributes, sameWidth}
 use Rattle.store.specs.Lists.{at, lowest, keep, every}
 use Rattle.store.specs.Model.{Model, noEntry, noEdge, shapeAt, edgeAt}
 use Rattle.store.specs.Image.{Place}
@@ -24,17 +24,17 @@ use Rattle.rules.specs.Steps.{Step, insert, configure, prototype, edgeKind, may
 use Rattle.rules.specs.Sound.{inRange, stepOf, leads, childrenStepped, goodLabel, goodChild}
 use Rattle.rules.specs.InUse.{EdgeRanges, each-shape, edge-ranges, shared-used, tabled}
 use Rattle.sound_shapes.specs.Keys.{good-entries, key-absent, key-held, held-read}
-use Rattle.sound_shapes.specs.Tests.{widthFits, LiveFits, leadsTo, Keyed}
+use Rattle.sound_shapes.specs.Tests.{widthFits, LiveFits, edgeKindOf, leadsTo, Keyed}
 use Rattle.sound_shapes.specs.Tests.{goodEdge, TablesKnown}
 
 -- ## The width of a key that is held
 
 module _ (m : Model) (s : Shape) (known : Keyed m s) where
-  pub entry-attributes : (k : ℕ) {e : Entry} → e ≡ getD (tableOf m s) k noEntry → e .attributes ≤ 31
+  pub entry-attributes : (k : ℕ) {e : Entry} → e ≡ getD (tableOf m s) k noEntry → e .attributes ≤ mostStored
   entry-attributes k {e} q =
       let test : Entry → Bool = λ x. goodAttributes (x .attributes) in
       let its = every-place noEntry test (tableOf m s) refl (known .good) (suc k) in
-      leb-true (e .attributes) 31 (rw q its)
+      leb-true (e .attributes) mostStored (rw q its)
 
   module _ (k a : ℕ) {place : ℕ} (sought : place ≡ lowest (isKey k) 1 (entries m s)) where
     pub absent-fits : place ≡ 0 → true ≡ widthFits k a (entries m s)
@@ -106,21 +106,21 @@ step-fits kind e es = go (eqb kind 0) (eqb kind 1)
 -- ## Ways out
 
 -- The step kinds of each kind of edge.
-edge-kind : (k : ℕ) (e : Edge) → edgeKind (stepOf k e) ≡ (if leb k 1 then 0 else 1)
+edge-kind : (k : ℕ) (e : Edge) → edgeKind (stepOf k e) ≡ edgeKindOf k
 edge-kind k e = first (eqb k 0) refl
   where
-    first : (b : Bool) → eqb k 0 ≡ b → edgeKind (stepOf k e) ≡ (if leb k 1 then 0 else 1)
+    first : (b : Bool) → eqb k 0 ≡ b → edgeKind (stepOf k e) ≡ edgeKindOf k
     first true q = rw (eqb-true k 0 q)
     first false q = second (eqb k 1) refl
       where
-        second : (b : Bool) → eqb k 1 ≡ b → edgeKind (stepOf k e) ≡ (if leb k 1 then 0 else 1)
+        second : (b : Bool) → eqb k 1 ≡ b → edgeKind (stepOf k e) ≡ edgeKindOf k
         second true r = rw (eqb-true k 1 r)
         second false r =
             let some = eqb-false k 0 q in
             let more = eqb-false k 1 r in
             rw (q, r, lt-leb k 1 (omega arith))
 
-pub leads-answer : (s : Shape) (e : Edge) {kind : ℕ} → kind ≡ (if leb (s .step) 1 then 0 else 1)
+pub leads-answer : (s : Shape) (e : Edge) {kind : ℕ} → kind ≡ edgeKindOf (s .step)
     → (eqb (s .state) 1 && eqb (s .previous) (e .parent) && eqb kind (e .kind)) ≡ leadsTo s e
 leads-answer s e q = rw (q, edge-kind (s .step) e)
 
@@ -136,24 +136,24 @@ module _ (es : List Entry) (e : Edge) where
   prototype-label q = rw (ne-eqb (e .kind) 0 q)
 
   module _ (property : e .kind ≡ 0) where
-    pub bad-attributes : 31 < e .attributes → false ≡ goodLabel es e
-    bad-attributes q = rw (property, lt-leb (e .attributes) 31 q) (never (goodKey (e .label)) _)
+    pub bad-attributes : mostStored < e .attributes → false ≡ goodLabel es e
+    bad-attributes q = rw (property, lt-leb (e .attributes) mostStored q) (never (goodKey (e .label)) _)
       where
         never : (a b : Bool) → false ≡ (a && false && b)
         never true b = refl
         never false b = refl
 
-    pub label-answer : e .attributes ≤ 31 → {good fits : Bool} → good ≡ goodKey (e .label)
+    pub label-answer : e .attributes ≤ mostStored → {good fits : Bool} → good ≡ goodKey (e .label)
         → fits ≡ widthFits (e .label) (e .attributes) es
         → (good && fits) ≡ goodLabel es e
     label-answer q good fits =
-        rw (property, le-leb (e .attributes) 31 q, good, fits) (sym (skip (goodKey (e .label)) _))
+        rw (property, le-leb (e .attributes) mostStored q, good, fits) (sym (skip (goodKey (e .label)) _))
       where
         skip : (a b : Bool) → (a && true && b) ≡ (a && b)
         skip true b = refl
         skip false b = refl
 
-    pub live-answer : e .attributes ≤ 31 → {good : Bool} → good ≡ goodKey (e .label) → e .child ≢ 0
+    pub live-answer : e .attributes ≤ mostStored → {good : Bool} → good ≡ goodKey (e .label) → e .child ≢ 0
         → LiveFits es e → good ≡ goodLabel es e
     live-answer q {good} known some fits =
         sym (and-true good) ∙ label-answer q known (sym (fits some property))

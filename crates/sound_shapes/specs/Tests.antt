@@ -19,9 +19,9 @@ use Rattle.store.specs.declared.Shape.{Shape}
 use Rattle.store.specs.declared.Entry.{Entry}
 use Rattle.store.specs.declared.Edge.{Edge}
 use Rattle.rules.specs.Shapes.{has, attributesIn, unique, isRoot, shared, tableOf, entries}
-use Rattle.rules.specs.Steps.{edgeKind}
-use Rattle.rules.specs.Sound.{stepOf, goodLabel, goodChild, inRange, tableInUse, tablesGood, countsFit}
-use Rattle.rules.specs.Sound.{childrenStepped}
+use Rattle.rules.specs.Steps.{configureStepKind, propertyEdgeKind, prototypeEdgeKind, edgeKind}
+use Rattle.rules.specs.Sound.{shapeRanged, edgeRanged, inRange, tableInUse, tablesGood, countsFit, stepOf}
+use Rattle.rules.specs.Sound.{childrenStepped, goodLabel, goodChild}
 use Rattle.rules.specs.InUse.{Tabled}
 use Rattle.sound_shapes.specs.declared.Sentence.{Sentence}
 use Rattle.sound_shapes.specs.declared.Sentence.the-variants.{ShapesInRange, EdgesInRange}
@@ -31,11 +31,10 @@ use Rattle.sound_shapes.specs.declared.Sentence.the-variants.{ShapesGood
 -- ## One record
 
 abbrev pub shapeInRange : (S T : ℕ) → Shape → Bool
-shapeInRange S T s =
-    freeShape s || (leb (s .state) 2 && leb (s .step) 2 && leb (s .previous) S && leb (s .table) T)
+shapeInRange S T s = freeShape s || shapeRanged S T s
 
 abbrev pub edgeInRange : (S : ℕ) → Edge → Bool
-edgeInRange S e = freeEdge e || (leb (e .kind) 1 && leb (e .parent) S && leb (e .child) S)
+edgeInRange S e = freeEdge e || edgeRanged S e
 
 abbrev pub shapeZeroIfFree : Shape → Bool
 shapeZeroIfFree s = not (freeShape s) || zeros (shapeWords s)
@@ -84,7 +83,11 @@ widthFits k a es = not (has k es) || sameWidth (attributesIn k es) a
 
 -- The same of a property edge that has a child.
 abbrev pub LiveFits : List Entry → Edge → Type 0
-LiveFits es e = e .child ≢ 0 → e .kind ≡ 0 → widthFits (e .label) (e .attributes) es ≡ true
+LiveFits es e = e .child ≢ 0 → e .kind ≡ propertyEdgeKind → widthFits (e .label) (e .attributes) es ≡ true
+
+-- The kind of the edges that a step kind has.
+abbrev pub edgeKindOf : (step : ℕ) → ℕ
+edgeKindOf step = if leb step configureStepKind then propertyEdgeKind else prototypeEdgeKind
 
 abbrev pub leadsTo : Shape → Edge → Bool
 leadsTo s e = shared s && eqb (s .previous) (e .parent) && eqb (edgeKind (stepOf (s .step) e)) (e .kind)

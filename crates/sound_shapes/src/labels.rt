@@ -4,28 +4,30 @@ use rules::good_key;
 use slot::KeyPosition;
 use slot::SlotAttributes;
 use store::Edge;
+use store::EdgeKind;
 use store::Shape;
+use store::ShapeState;
+use store::StepKind;
 use store::image::get_edge;
 use store::image::get_entry;
 use store::image::get_shape;
 ghost use mathlib.Core.Path.{_≡_};
 ghost use Prim.Native.Nat.{_≤_};
-ghost use lib.Dec.{leb};
 ghost use lib.ListN.{length};
-ghost use Rattle.slot.specs.If.{if_then_else_};
+ghost use Rattle.slot.specs.Attributes.{mostStored};
 ghost use Rattle.store.specs.Model.{shapeAt, edgeAt};
 ghost use Rattle.store.specs.Layout.{parse};
 ghost use Rattle.store.specs.Image.{Formed, Place};
 ghost use Rattle.rules.specs.Shapes.{entries};
 ghost use Rattle.rules.specs.Sound.{goodLabel, goodChild};
-ghost use Rattle.sound_shapes.specs.Tests.{StepsKnown, Keyed, widthFits, LiveFits, leadsTo};
-ghost use Rattle.sound_shapes.specs.Tests.{goodEdge};
+ghost use Rattle.sound_shapes.specs.Tests.{StepsKnown, Keyed, widthFits, LiveFits, edgeKindOf};
+ghost use Rattle.sound_shapes.specs.Tests.{leadsTo, goodEdge};
 
 // The attributes are of equal width where the shape holds the key.
 fn width_fits(image: &[u32], s: Shape, key: u32, attributes: u32) -> bool
     requires { ⌜ Formed (now image) ⌝ }
     requires { ⌜ Keyed (parse (now image)) s ⌝ }
-    requires { ⌜ attributes ≤ 31 ⌝ }
+    requires { ⌜ attributes ≤ mostStored ⌝ }
     ensures { λ r. ⌜ r ≡ widthFits key attributes (entries (parse (now (image .entry))) s) ⌝ }
 {
     let place = place_of_key(image, s, key);
@@ -45,10 +47,10 @@ fn label_is_good(image: &[u32], parent: Shape, e: Edge) -> bool
     requires { ⌜ LiveFits (entries (parse (now image)) parent) e ⌝ }
     ensures { λ r. ⌜ r ≡ goodLabel (entries (parse (now (image .entry))) parent) e ⌝ }
 {
-    if e.kind != 0 {
+    if e.kind != EdgeKind::PROPERTY {
         return e.attributes == 0;
     }
-    if e.attributes > 31 {
+    if e.attributes > SlotAttributes::MOST_STORED {
         return false;
     }
     let good = good_key(e.label);
@@ -58,17 +60,20 @@ fn label_is_good(image: &[u32], parent: Shape, e: Edge) -> bool
     good & width_fits(image, parent, e.label, e.attributes)
 }
 
-// The kind of the edges that a step kind has.
 fn edge_kind(step: u32) -> u32
-    ensures { λ r. ⌜ r ≡ (if leb step 1 then 0 else 1) ⌝ }
+    ensures { λ r. ⌜ r ≡ edgeKindOf step ⌝ }
 {
-    if step <= 1 { 0 } else { 1 }
+    if step <= StepKind::CONFIGURE {
+        EdgeKind::PROPERTY
+    } else {
+        EdgeKind::PROTOTYPE
+    }
 }
 
 fn leads_to(s: Shape, e: Edge) -> bool
     ensures { λ r. ⌜ r ≡ leadsTo s e ⌝ }
 {
-    (s.state == 1) & (s.previous == e.parent) & (edge_kind(s.step) == e.kind)
+    (s.state == ShapeState::SHARED) & (s.previous == e.parent) & (edge_kind(s.step) == e.kind)
 }
 
 // "an edge's child is 0 or a shared shape whose previous is that parent and whose step kind fits"
@@ -96,7 +101,7 @@ pub fn edge_is_good(image: &[u32], n: u32) -> bool
         return true;
     }
     let parent = get_shape(image, e.parent);
-    if parent.state != 1 {
+    if parent.state != ShapeState::SHARED {
         return false;
     }
     if !child_is_good(image, e) {

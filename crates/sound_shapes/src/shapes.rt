@@ -1,6 +1,8 @@
 // What soundness asks of one shape's own fields.
 use crate::zeros::are_zero;
 use store::Shape;
+use store::ShapeState;
+use store::StepKind;
 use store::image::entry_count;
 use store::image::get_shape;
 use store::image::table_is_free;
@@ -20,7 +22,11 @@ ghost use Rattle.sound_shapes.specs.Tests.{goodShape};
 pub fn shape_in_range(s: Shape, shapes: u32, tables: u32) -> bool
     ensures { λ r. ⌜ r ≡ shapeInRange shapes tables s ⌝ }
 {
-    (s.state == 0) | ((s.state <= 2) & (s.step <= 2) & (s.previous <= shapes) & (s.table <= tables))
+    (s.state == ShapeState::FREE)
+        | ((s.state <= ShapeState::UNIQUE)
+            & (s.step <= StepKind::PROTOTYPE)
+            & (s.previous <= shapes)
+            & (s.table <= tables))
 }
 
 pub fn shape_zero_if_free(s: Shape) -> bool
@@ -35,14 +41,14 @@ pub fn shape_zero_if_free(s: Shape) -> bool
         counters.property,
         counters.prototype,
     );
-    !(s.state == 0) | (front & back)
+    !(s.state == ShapeState::FREE) | (front & back)
 }
 
 // "A shape's property count is at most its table's length, equal for a unique."
 fn count_fits(s: Shape, long: u32) -> bool
     ensures { λ r. ⌜ r ≡ countFits long s ⌝ }
 {
-    if s.state == 2 {
+    if s.state == ShapeState::UNIQUE {
         s.properties == long
     } else {
         s.properties <= long
@@ -54,7 +60,7 @@ fn root_is_zero(s: Shape) -> bool
     ensures { λ r. ⌜ r ≡ rootZero s ⌝ }
 {
     let zero = are_zero(s.previous, s.step, s.transitions, s.properties, s.prototype);
-    !((s.state == 1) & (s.previous == 0)) | zero
+    !((s.state == ShapeState::SHARED) & (s.previous == 0)) | zero
 }
 
 // "Transition counts are at most 1,024, and 1,024 has no holds."
@@ -83,7 +89,7 @@ fn unique_is_zero(s: Shape) -> bool
         counters.property,
         counters.prototype,
     );
-    !(s.state == 2) | zero
+    !(s.state == ShapeState::UNIQUE) | zero
 }
 
 fn own_fields_are_good(s: Shape, long: u32) -> bool
@@ -116,7 +122,7 @@ pub fn shape_is_good(image: &[u32], n: u32) -> bool
         ⌜ r ≡ goodShape (parse (now (image .entry))) (shapeAt (parse (now (image .entry))) n) ⌝ }
 {
     let s = get_shape(image, n);
-    if s.state == 0 {
+    if s.state == ShapeState::FREE {
         return true;
     }
     if is_table(image, s.table) {

@@ -1,6 +1,7 @@
 // Whether each child is linked to its previous by its one edge.
 use store::Edge;
 use store::Shape;
+use store::ShapeState;
 use store::image::edge_count;
 use store::image::get_edge;
 use store::rows::clear;
@@ -55,7 +56,7 @@ pub fn edges_by_child(image: &[u32], marks: &mut [u32])
 pub fn is_child(s: Shape) -> bool
     ensures { λ r. ⌜ r ≡ isChild s ⌝ }
 {
-    (s.state == 1) & (s.previous != 0)
+    (s.state == ShapeState::SHARED) & (s.previous != 0)
 }
 
 // There is no edge to the child, or there are several.
@@ -70,5 +71,5 @@ pub fn is_joined(p: Shape, s: Shape, edge: Edge) -> bool
 {
     // In 64 bits the sum fits: the counts are not yet known to be small.
     let one_more = wide(s.transitions) == wide(p.transitions) + 1;
-    (p.state == 1) & one_more & (edge.parent == s.previous)
+    (p.state == ShapeState::SHARED) & one_more & (edge.parent == s.previous)
 }

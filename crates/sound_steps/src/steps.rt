@@ -4,6 +4,7 @@ use sound_shapes::keys::place_of_key;
 use store::Edge;
 use store::Entry;
 use store::Shape;
+use store::StepKind;
 use store::image::get_entry;
 ghost use mathlib.Core.Path.{_≡_};
 ghost use mathlib.Core.Bool.{true};
@@ -97,7 +98,7 @@ fn entries_follow(image: &[u32], p: Shape, s: Shape, edge: Edge) -> bool
     ensures { λ r. ⌜ r ≡ entriesFollow (parse (now (image .entry))) p s edge ⌝ }
 {
     let before = p.properties;
-    if s.step == 0 {
+    if s.step == StepKind::INSERT {
         if s.properties != before + 1 {
             return false;
         }
@@ -108,13 +109,17 @@ fn entries_follow(image: &[u32], p: Shape, s: Shape, edge: Edge) -> bool
     if s.properties != before {
         return false;
     }
-    same_first(image, p, s, edge, s.step == 1)
+    same_first(image, p, s, edge, s.step == StepKind::CONFIGURE)
 }
 
 fn prototype_after(kind: u32, edge: Edge, prototype: u32) -> u32
     ensures { λ r. ⌜ r ≡ stepPrototype (stepOf kind edge) prototype ⌝ }
 {
-    if kind > 1 { edge.label } else { prototype }
+    if kind > StepKind::CONFIGURE {
+        edge.label
+    } else {
+        prototype
+    }
 }
 
 // That an insert's key is new needs no test: the child's table has distinct keys.
@@ -130,7 +135,7 @@ pub fn leads(image: &[u32], p: Shape, s: Shape, edge: Edge) -> bool
 {
     let follow = entries_follow(image, p, s, edge);
     let after = follow & (s.prototype == prototype_after(s.step, edge, p.prototype));
-    if s.step == 1 {
+    if s.step == StepKind::CONFIGURE {
         return after & may_configure(image, p, edge);
     }
     after

@@ -11,7 +11,7 @@ use lib.Dec.{eqb}
 use lib.ListN.{length, getD, set, take, drop, length-map, List·getD-map}
 use lib.Seq.{drop-cons, drop-length}
 use Rattle.slot.specs.If.{if_then_else_}
-use Rattle.slot.specs.Attributes.{goodAttributes, accessor, width}
+use Rattle.slot.specs.Attributes.{mostStored, goodAttributes, accessor, width}
 use Rattle.store.specs.Lists.{every}
 use Rattle.store.specs.ListLaws.{and-both}
 use Rattle.store.specs.Scans.{Scanning, scan, placesScan, table-next}
@@ -67,9 +67,9 @@ first-right e next es =
     go false b c d = refl
 
 pub attributes-good : (e : Entry) (next : ℕ) {b : Bool} → b ≡ (goodEntry e && eqb (e .slot .0) next) → b ≡ true
-    → e .attributes ≤ 31
+    → e .attributes ≤ mostStored
 attributes-good e next f g =
-    leb-true (e .attributes) 31 (and-both (goodKey (e .key)) (and-both (goodEntry e) (sym f ∙ g) .0) .1)
+    leb-true (e .attributes) mostStored (and-both (goodKey (e .key)) (and-both (goodEntry e) (sym f ∙ g) .0) .1)
 
 -- The entries before are right, their keys are written, and `next` is the sum of their widths.
 pub record Right (es : List Entry) (long done next : ℕ) (codes : List ℕ) : Type 0 where

@@ -4,6 +4,7 @@ use distinct::first_are_distinct;
 use rules::good_key;
 use slot::KeyPosition;
 use slot::SlotAttributes;
+use slot::SlotIndex;
 use store::Entry;
 use store::image::entry_count;
 use store::image::get_entry;
@@ -14,7 +15,7 @@ ghost use mathlib.Core.Bool.{Bool, _&&_};
 ghost use Prim.Native.Nat.{_≤_};
 ghost use lib.Dec.{eqb};
 ghost use lib.ListN.{length, take};
-ghost use Rattle.slot.specs.Attributes.{width};
+ghost use Rattle.slot.specs.Attributes.{mostStored, width};
 ghost use Rattle.store.specs.Model.{tableAt, entriesOf};
 ghost use Rattle.store.specs.Layout.{parse};
 ghost use Rattle.store.specs.Image.{Formed, Place};
@@ -22,14 +23,14 @@ ghost use Rattle.rules.specs.Sound.{goodEntries, tablesGood};
 ghost use Rattle.sound_tables.specs.Good.{goodEntry, entriesRight, keysOf, Roomy};
 
 // Whether an entry is good and its slot index the sum of the widths before it.
-fn entry_right(e: Entry, next: u32) -> bool
-    ensures { λ r. ⌜ r ≡ (goodEntry e && eqb (e .slot .0) next) ⌝ }
+fn entry_right(e: Entry, next: SlotIndex) -> bool
+    ensures { λ r. ⌜ r ≡ (goodEntry e && eqb (e .slot .0) (next .0)) ⌝ }
 {
-    good_key(e.key) & (e.attributes <= 31) & (e.slot.0 == next)
+    good_key(e.key) & (e.attributes <= SlotAttributes::MOST_STORED) & (e.slot.0 == next.0)
 }
 
 fn entry_width(e: Entry) -> u32
-    requires { ⌜ e .attributes ≤ 31 ⌝ }
+    requires { ⌜ e .attributes ≤ mostStored ⌝ }
     ensures { λ r. ⌜ r ≡ width (e .attributes) ⌝ }
 {
     let attributes = SlotAttributes(e.attributes as u8);
@@ -50,17 +51,17 @@ fn entries_right(image: &[u32], t: u32, codes: &mut [u64]) -> bool
         ⌝ }
 {
     let count = entry_count(image, t);
-    let mut next = 0;
-    let mut done = 0;
-    while done < count {
-        let e = get_entry(image, t, KeyPosition(done));
+    let mut next = SlotIndex(0);
+    let mut position = KeyPosition(0);
+    while position.0 < count {
+        let e = get_entry(image, t, position);
         if !entry_right(e, next) {
             return false;
         }
-        let place = wide(done);
+        let place = wide(position.0);
         codes[place] = e.key as u64;
-        next += entry_width(e);
-        done += 1;
+        next = next.after(entry_width(e));
+        position = KeyPosition(position.0 + 1);
     }
     true
 }

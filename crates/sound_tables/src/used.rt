@@ -1,6 +1,7 @@
 // Whether each table in use is used by a shape, and a unique shape's table by it alone.
 // Users are counted in one pass.
 use store::Shape;
+use store::ShapeState;
 use store::image::get_shape;
 use store::image::shape_count;
 use store::image::table_count;
@@ -24,7 +25,7 @@ fn count_user(users: &mut [u32], s: Shape)
     requires { ⌜ Countable (now users) s ⌝ }
     ensures { λ _. ⌜ now (users .exit) ≡ withUser (now (users .entry)) s ⌝ }
 {
-    if s.state == 0 {
+    if s.state == ShapeState::FREE {
         return;
     }
     let table = wide(s.table);
@@ -78,7 +79,7 @@ fn unique_alone(users: &[u32], s: Shape) -> bool
     requires { ⌜ Sited (now users) s ⌝ }
     ensures { λ r. ⌜ r ≡ aloneIn (now (users .entry)) s ⌝ }
 {
-    if s.state != 2 {
+    if s.state != ShapeState::UNIQUE {
         return true;
     }
     let table = wide(s.table);

@@ -20,13 +20,46 @@ pub struct Counters {
     pub prototype: u32,
 }
 
+// A record's words are plain numbers. These three types have no values: they hold the names of such numbers.
+
+// "state (1 shared, 2 unique)"; a free record is zero.
+pub struct ShapeState {}
+
+impl ShapeState {
+    pub const FREE: u32 = 0;
+
+    pub const SHARED: u32 = 1;
+
+    pub const UNIQUE: u32 = 2;
+}
+
+// "step kind (0 insert, 1 configure, 2 prototype)"
+pub struct StepKind {}
+
+impl StepKind {
+    pub const INSERT: u32 = 0;
+
+    pub const CONFIGURE: u32 = 1;
+
+    pub const PROTOTYPE: u32 = 2;
+}
+
+// "kind (0 property, 1 prototype)"
+pub struct EdgeKind {}
+
+impl EdgeKind {
+    pub const PROPERTY: u32 = 0;
+
+    pub const PROTOTYPE: u32 = 1;
+}
+
 pub struct Shape {
-    // 0 free, 1 shared, 2 unique
+    // a ShapeState
     pub state: u32,
     pub holds: u32,
     // 0 for none
     pub previous: u32,
-    // 0 insert, 1 configure, 2 prototype
+    // a StepKind
     pub step: u32,
     pub transitions: u32,
     pub properties: u32,
@@ -43,7 +76,7 @@ pub struct Entry {
 
 pub struct Edge {
     pub parent: u32,
-    // 0 property, 1 prototype
+    // an EdgeKind
     pub kind: u32,
     // the key, or the prototype
     pub label: u32,

@@ -4,6 +4,7 @@ use crate::marks::mark;
 use store::Counters;
 use store::Edge;
 use store::Shape;
+use store::ShapeState;
 use store::image::edge_count;
 use store::image::free_table;
 use store::image::get_edge;
@@ -42,7 +43,7 @@ fn sweep_shape(image: &mut [u32], marks: &[u8], n: u32)
         return;
     }
     let s = Shape {
-        state: 0,
+        state: ShapeState::FREE,
         holds: 0,
         previous: 0,
         step: 0,
@@ -137,7 +138,7 @@ fn mark_table(image: &[u32], users: &mut [u8], n: u32)
         ⌝ }
 {
     let s = get_shape(image, n);
-    if s.state != 0 {
+    if s.state != ShapeState::FREE {
         mark(users, s.table);
     }
 }

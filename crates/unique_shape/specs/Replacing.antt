@@ -6,6 +6,7 @@ use mathlib.Core.Logic.{_≢_}
 use mathlib.Core.Path.{_≡_, sym}
 use Prim.Native.Nat.{ℕ, _≤_, _<_}
 use lib.ListN.{length}
+use Rattle.slot.specs.Attributes.{mostStored}
 use Rattle.store.specs.Model.{Table, Model, used, free, noShape, freeShape, freeTable, shapeAt, tableAt}
 use Rattle.store.specs.Model.{putShape, putTable}
 use Rattle.store.specs.PlaceLaws.{put-put, lowest-put}
@@ -35,7 +36,7 @@ keysCopied (Changed k) es = laid 0 (configured es (keyAt es (k .position .0)) (k
 abbrev pub CanCopy : KeyCopy → List Entry → Type 0
 CanCopy All es = Unit {0}
 CanCopy (Without p) es = p .0 < length es
-CanCopy (Changed k) es = (k .position .0 < length es) × (k .attributes .0 ≤ 31)
+CanCopy (Changed k) es = (k .position .0 < length es) × (k .attributes .0 ≤ mostStored)
 
 -- ## The two shapes
 

@@ -24,6 +24,7 @@ ghost use mathlib.Core.Path.{_≡_};
 ghost use mathlib.Core.Bool.{true};
 ghost use Prim.Native.Nat.{_≤_};
 ghost use lib.ListN.{length};
+ghost use Rattle.slot.specs.Attributes.{mostStored};
 ghost use Rattle.store.specs.Model.{tableAt, shapeAt, putShape, putTable, free, used};
 ghost use Rattle.store.specs.Layout.{parse};
 ghost use Rattle.store.specs.Image.{Formed, Becomes};
@@ -171,7 +172,7 @@ pub fn change_attributes_transition(
     requires { ⌜ Sound (parse (now image)) ⌝ }
     requires { ⌜ unique (shapeAt (parse (now image)) n) ≡ true ⌝ }
     requires { ⌜ has key (entries (parse (now image)) (shapeAt (parse (now image)) n)) ≡ true ⌝ }
-    requires { ⌜ attributes .0 ≤ 31 ⌝ }
+    requires { ⌜ attributes .0 ≤ mostStored ⌝ }
     ensures { λ r. ⌜
         Places (now (image .entry)) (now (image .exit))
         (changeUnique (parse (now (image .entry))) n key (attributes .0)) r

@@ -1,6 +1,7 @@
 -- `property_table::append_entries` meets its contract. Assumes nothing.
 use borrow.Author.Needs.{needs}
 use Prim.Native.Nat.{_-_, _≤_}
+use Rattle.slot.specs.Attributes.{mostStored}
 use Rattle.property_table.specs.Slotted.{byte-at}
 use Rattle.property_table.specs.Copies.{Copying, copy-start, copy-turn, copy-done}
 use Rattle.property_table.proofs.append_entries.Statement.{statement}
@@ -24,7 +25,7 @@ cast-t15 : tie.Need-cast-t15 Inv-loop μ-loop
 cast-t15 c =
     let get-entry = c .before .before .get-entry in
     let loop = c .before .before .before .before .before .loop in
-    let low : get-entry .result .attributes ≤ 31 =
+    let low : get-entry .result .attributes ≤ mostStored =
     rw (get-entry .ensures) (byte-at (loop .inv .ready .tables .slotted) _) in
     search needs
 

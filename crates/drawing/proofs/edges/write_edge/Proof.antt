@@ -3,7 +3,8 @@ use native.Mathlib.Omega.{arith}
 use Rattle.store.specs.Model.{shapeAt, edgeAt}
 use Rattle.store.specs.Layout.{parse}
 use borrow.Author.Tests.{eq-eqb, ne-eqb}
-use Rattle.rules.specs.InUse.{shared-used}
+use Rattle.rules.specs.Shapes.{entries}
+use Rattle.rules.specs.InUse.{shared-used, label-attributes}
 use Rattle.drawing.specs.Parts.{puts-nothing, puts-then, puts-within}
 use Rattle.drawing.specs.Graph.{edgeText}
 use borrow.Author.Needs.{needs}
@@ -29,18 +30,22 @@ write-step-requires c κs =
     let start = at-edge .before .before .before in
     let m = parse (start .args .image .now) in
     let e = at-edge .get-edge .ensures in
+    let edge = edgeAt m (start .args .n) in
+    let parent = shapeAt m (edge .parent) in
     let its = start .pre .1 .0 .edges (start .args .n) (rw (← e) (ne-eqb _ 0 (at-if1 .if1 .left))) in (
       start .pre .0,
       (
         start .pre .1 .0,
         (
-          rw e (shared-used (shapeAt m (edgeAt m (start .args .n) .parent))
-              (its .parentShared)),
-          omega (
-            arith,
-            start .pre .1 .1 .1,
-            at-ends .write-ends .ensures .few,
-            at-ends .write-ends .ensures .long,
+          rw e (shared-used parent (its .parentShared)),
+          (
+            rw e (label-attributes (entries m parent) edge (its .label)),
+            omega (
+              arith,
+              start .pre .1 .1 .1,
+              at-ends .write-ends .ensures .few,
+              at-ends .write-ends .ensures .long,
+            ),
           ),
         ),
       ),

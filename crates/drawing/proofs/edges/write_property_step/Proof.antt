@@ -11,7 +11,7 @@ write-step-name-requires c κs = (
   c .before .before .before .pre .0,
   (
     c .before .before .before .pre .1 .0,
-    (c .before .before .before .pre .1 .1 .0, omega (arith, c .before .before .before .pre .1 .1 .1)),
+    (c .before .before .before .pre .1 .1 .0, omega (arith, c .before .before .before .pre .1 .1 .1 .1)),
   ),
 )
 

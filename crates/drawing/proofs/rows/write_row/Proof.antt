@@ -8,8 +8,8 @@ use borrow.Author.Needs.{needs}
 use Rattle.drawing.proofs.rows.write_row.Statement.{statement}
 use Rattle.drawing.proofs.rows.write_row.Tie as tie
 
-cast-t15 : tie.Need-cast-t15
-cast-t15 c = search needs
+cast-t16 : tie.Need-cast-t16
+cast-t16 c = search needs
 
 is-accessor-descriptor-requires : tie.Need-is-accessor-descriptor-requires
 is-accessor-descriptor-requires c κs = search needs
@@ -41,11 +41,11 @@ slice-aggregate-write-key-row-3 c = search needs
 write-key-row-requires-2 : tie.Need-write-key-row-requires-2
 write-key-row-requires-2 c κs = search needs
 
+after-requires : tie.Need-after-requires
+after-requires c κs = search needs
+
 slice-aggregate-write-numbered : tie.Need-slice-aggregate-write-numbered
 slice-aggregate-write-numbered c = search needs
-
-add-write-numbered : tie.Need-add-write-numbered
-add-write-numbered c = search needs
 
 write-numbered-requires : tie.Need-write-numbered-requires
 write-numbered-requires c κs = search needs
@@ -60,11 +60,13 @@ returns-2 : tie.Need-returns-2
 unfolding rowText
 returns-2 c =
     let at-numbered = c .before .before .before .before .before .before .before in
-    let at-key-row2 = at-numbered .before .before .before .before .before .before .before in
+    let at-after = at-numbered .before .before .before in
+    let at-key-row2 = at-after .before .before .before .before in
     let at-if1 = at-key-row2 .before .before .before .before .before in
     let at-is-accessor-descriptor = at-if1 .before in
-    let all = puts-then (puts-then (at-key-row2 .write-key-row2 .ensures)
-    (at-numbered .write-numbered .ensures)) (c .before .before .write-word .ensures) in
+    let second = rw (at-after .after .ensures) at (at-numbered .write-numbered .ensures) in
+    let all = puts-then (puts-then (at-key-row2 .write-key-row2 .ensures) second)
+    (c .before .before .write-word .ensures) in
     rw (sym (at-is-accessor-descriptor .is-accessor-descriptor .ensures) ∙ not-false _ (at-if1 .if1 .left))
     (puts-within 150 (omega arith) all)
 
@@ -75,7 +77,7 @@ pub write-row-spec : {M : Type 1} → statement M
 write-row-spec =
     tie.close
     (tie.spec
-    cast-t15
+    cast-t16
     is-accessor-descriptor-requires
     slice-aggregate-write-key-row
     slice-aggregate-write-key-row-2
@@ -84,8 +86,8 @@ write-row-spec =
     returns
     slice-aggregate-write-key-row-3
     write-key-row-requires-2
+    after-requires
     slice-aggregate-write-numbered
-    add-write-numbered
     write-numbered-requires
     slice-aggregate-write-word
     write-word-requires

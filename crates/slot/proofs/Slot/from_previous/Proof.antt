@@ -15,13 +15,15 @@ returns c = rw (c .enum-told .given .1)
 width-requires : tie.Need-width-requires
 width-requires c κs = search needs
 
-add-t6 : tie.Need-add-t6
-add-t6 c =
+after-requires : tie.Need-after-requires
+after-requires c κs =
     let fits = rw (c .before .before .before .previous .given .1) at (c .before .before .before .before .before .pre)
-    in search needs
+    in rw (c .width .ensures) fits
 
 returns-2 : tie.Need-returns-2
-returns-2 c = rw (c .before .before .before .previous .given .1, ← c .before .width .ensures)
+returns-2 c =
+    rw (c .before .before .before .before .previous .given .1, ← c .before .width .ensures, ← c .after .ensures)
 
 pub from-previous-spec : {M : Type 1} → statement M
-from-previous-spec = tie.close (tie.spec enum-known-previous enum-told returns width-requires add-t6 returns-2)
+from-previous-spec =
+    tie.close (tie.spec enum-known-previous enum-told returns width-requires after-requires returns-2)

@@ -16,11 +16,11 @@ use Rattle.sound_tables.proofs.good.entries_right.Statement.{statement}
 use Rattle.sound_tables.proofs.good.entries_right.Tie as tie
 
 abbrev Inv-loop : tie.InvT-loop
-Inv-loop image t codes₀ count next₀ done₀ codes next done =
-    Right (entriesOf (tableAt (parse image) t)) (length codes₀) done next codes
+Inv-loop image t codes₀ count next₀ position₀ codes next position =
+    Right (entriesOf (tableAt (parse image) t)) (length codes₀) (position .0) (next .0) codes
 
 abbrev μ-loop : tie.MeasureT-loop
-μ-loop image t codes₀ count next₀ done₀ codes next done = count - done
+μ-loop image t codes₀ count next₀ position₀ codes next position = count - position .0
 
 entry-count-requires : tie.Need-entry-count-requires Inv-loop μ-loop
 entry-count-requires c κs = search needs
@@ -34,25 +34,25 @@ loop-holds c =
 
 get-entry-requires : tie.Need-get-entry-requires Inv-loop μ-loop
 get-entry-requires c κs =
-    let pre = c .before .before .before .before .before .pre in
-    let entry-count = c .before .before .entry-count in
+    let pre = c .before .before .before .before .before .before .pre in
+    let entry-count = c .before .before .before .entry-count in
     (pre .0, (pre .1 .0, omega (arith, entry-count .ensures)))
 
 entry-right-requires : tie.Need-entry-right-requires Inv-loop μ-loop
 entry-right-requires c κs = search needs
 
 same-length : tie.Need-same-length Inv-loop μ-loop
-same-length c = c .before .before .before .before .loop .inv .written .kept
+same-length c = c .before .before .before .before .before .loop .inv .written .kept
 
 returns : tie.Need-returns Inv-loop μ-loop
 returns c =
-    let entry-count = c .before .before .before .before .before .entry-count in
-    let loop = c .before .before .before .before .loop in
-    let loop-test = c .before .before .before .loop-test in
+    let entry-count = c .before .before .before .before .before .before .entry-count in
+    let loop = c .before .before .before .before .before .loop in
+    let if1 = c .before .before .before .if1 in
     let get-entry = c .before .before .get-entry in
     let entry-right = c .before .entry-right in (
-      entry-wrong (loop .inv) (entry-count .ensures) (loop-test .taken) (get-entry .ensures) (entry-right .ensures)
-          (not-true _ (c .if1 .taken)),
+      entry-wrong (loop .inv) (entry-count .ensures) (if1 .taken) (get-entry .ensures) (entry-right .ensures)
+          (not-true _ (c .if2 .taken)),
       λ e. absurd (true≢false (sym e)),
     )
 
@@ -67,16 +67,16 @@ mul-codes c = search needs
 
 slice-write-codes : tie.Need-slice-write-codes Inv-loop μ-loop
 slice-write-codes c =
-    let args = c .before .before .before .before .before .before .before .before .before .before .args in
-    let pre = c .before .before .before .before .before .before .before .before .before .before .pre in
-    let entry-count = c .before .before .before .before .before .before .before .entry-count in
-    let loop = c .before .before .before .before .before .before .loop in
-    let loop-test = c .before .before .before .before .before .loop-test in
+    let args = c .before .before .before .before .before .before .before .before .before .before .before .args in
+    let pre = c .before .before .before .before .before .before .before .before .before .before .before .pre in
+    let entry-count = c .before .before .before .before .before .before .before .before .entry-count in
+    let loop = c .before .before .before .before .before .before .before .loop in
+    let if1 = c .before .before .before .before .before .if1 in
     let wide = c .before .wide in
     omega (
       arith,
       loop .inv .written .kept,
-      loop-test .taken,
+      if1 .taken,
       entry-count .ensures,
       wide .ensures,
       entries-fit (pre .0) (args .t),
@@ -87,53 +87,55 @@ entry-width-requires : tie.Need-entry-width-requires Inv-loop μ-loop
 entry-width-requires c κs =
     let get-entry = c .before .before .before .before .get-entry in
     let entry-right = c .before .before .before .entry-right in
-    let if1 = c .before .before .if1 in
-    attributes-good (get-entry .result) _ (entry-right .ensures) (not-false _ (if1 .left))
+    let if2 = c .before .before .if2 in
+    attributes-good (get-entry .result) _ (entry-right .ensures) (not-false _ (if2 .left))
 
-add-next : tie.Need-add-next Inv-loop μ-loop
-add-next c =
-    let args = c .before .before .before .before .before .before .before .before .before .before .before .args in
-    let pre = c .before .before .before .before .before .before .before .before .before .before .before .pre in
-    let entry-count = c .before .before .before .before .before .before .before .before .entry-count in
-    let loop = c .before .before .before .before .before .before .before .loop in
-    let loop-test = c .before .before .before .before .before .before .loop-test in
+after-requires : tie.Need-after-requires Inv-loop μ-loop
+after-requires c κs =
+    let args = c .before .before .before .before .before .before .before .before .before .before .before .before .args in
+    let pre = c .before .before .before .before .before .before .before .before .before .before .before .before .pre in
+    let entry-count = c .before .before .before .before .before .before .before .before .before .entry-count in
+    let loop = c .before .before .before .before .before .before .before .before .loop in
+    let if1 = c .before .before .before .before .before .before .if1 in
     let get-entry = c .before .before .before .before .before .get-entry in
     omega (
       arith,
       c .entry-width .ensures,
       narrow (get-entry .result .attributes),
       loop .inv .small,
-      loop-test .taken,
+      if1 .taken,
       entry-count .ensures,
       entries-fit (pre .0) (args .t),
       pre .0 .limited .keys,
     )
 
-add-done : tie.Need-add-done Inv-loop μ-loop
-add-done c = search needs
+add-t14 : tie.Need-add-t14 Inv-loop μ-loop
+add-t14 c = search needs
 
 loop-less : tie.Need-loop-less Inv-loop μ-loop
 loop-less c = search needs
 
 loop-again : tie.Need-loop-again Inv-loop μ-loop
 loop-again c =
-    let entry-count = c .before .before .before .before .before .before .before .before .entry-count in
-    let loop = c .before .before .before .before .before .before .before .loop in
-    let loop-test = c .before .before .before .before .before .before .loop-test in
-    let get-entry = c .before .before .before .before .before .get-entry in
-    let entry-right = c .before .before .before .before .entry-right in
-    let if1 = c .before .before .before .if1 in
-    let wide = c .before .before .wide in
-    entry-next (loop .inv) (entry-count .ensures) (loop-test .taken) (get-entry .ensures)
-    (entry-right .ensures) (not-false _ (if1 .left)) (c .entry-width .ensures) (wide .ensures)
+    let entry-count = c .before .before .before .before .before .before .before .before .before .before .before .entry-count in
+    let loop = c .before .before .before .before .before .before .before .before .before .before .loop in
+    let if1 = c .before .before .before .before .before .before .before .before .if1 in
+    let get-entry = c .before .before .before .before .before .before .before .get-entry in
+    let entry-right = c .before .before .before .before .before .before .entry-right in
+    let if2 = c .before .before .before .before .before .if2 in
+    let wide = c .before .before .before .before .wide in
+    let entry-width = c .before .before .entry-width in
+    rw (c .before .after .ensures)
+    (entry-next (loop .inv) (entry-count .ensures) (if1 .taken) (get-entry .ensures)
+    (entry-right .ensures) (not-false _ (if2 .left)) (entry-width .ensures) (wide .ensures))
 
 same-length-2 : tie.Need-same-length-2 Inv-loop μ-loop
-same-length-2 c = c .before .loop .inv .written .kept
+same-length-2 c = c .before .before .loop .inv .written .kept
 
 returns-2 : tie.Need-returns-2 Inv-loop μ-loop
 returns-2 c = (
-  right-all (c .before .loop .inv) (c .before .before .entry-count .ensures) (c .loop-test .left),
-  λ e. keys-written (c .before .loop .inv) (c .before .before .entry-count .ensures) (c .loop-test .left),
+  right-all (c .before .before .loop .inv) (c .before .before .before .entry-count .ensures) (c .if1 .left),
+  λ e. keys-written (c .before .before .loop .inv) (c .before .before .before .entry-count .ensures) (c .if1 .left),
 )
 
 pub entries-right-spec : {M : Type 1} → statement M
@@ -153,8 +155,8 @@ entries-right-spec =
     mul-codes
     slice-write-codes
     entry-width-requires
-    add-next
-    add-done
+    after-requires
+    add-t14
     loop-less
     loop-again
     same-length-2

@@ -7,7 +7,7 @@ good-key-requires : tie.Need-good-key-requires
 good-key-requires c κs = search needs
 
 returns : tie.Need-returns
-returns c = rw (c .before .before .good-key .ensures)
+returns c = rw (c .before .before .before .good-key .ensures)
 
 pub entry-right-spec : {M : Type 1} → statement M
 entry-right-spec = tie.close (tie.spec good-key-requires returns)
