@@ -21,7 +21,7 @@ use Rattle.rules.specs.Calls.{perform}
 use Rattle.rules.specs.Calls.{lookup, keysInto, prototypeOf, isShared, transitionsOf, propertiesOf}
 use Rattle.rules.specs.Replies.{Answers}
 use Rattle.property_table.specs.Copies.{entriesIn}
-use Rattle.property_table.specs.Lookup.{lookedUp, looked-held, looked-absent}
+use Rattle.property_table.specs.Lookup.{lookedUp, looked-held, looked-slot, looked-absent}
 use Rattle.property_table.specs.declared.Property.{Property}
 use Rattle.property_table.specs.declared.OptionalProperty.the-variants.{At, Nothing}
 
@@ -70,15 +70,15 @@ module _ {ws : List ℕ} (formed : Formed ws) (n : ℕ) (may : unheld (parse ws)
     abbrev es : List Entry
     es = entries model (shapeAt model n)
 
-    pub lookup-finds : {p : Property} → lookedUp k 0 es ≡ At p
+    pub lookup-finds : {p : Property} → lookedUp k es ≡ At p
         → let s = p .slot in
         Answers ws ws (perform model (lookup n k)) (Yes (Found (s .index .0) (s .attributes .0)))
     unfolding perform
     lookup-finds looked =
-        let h = looked-held {k = k} {es = es} looked in
-        rw (good, may, h .answer, h .slot) (unchanged formed, refl)
+        let answer = looked-held {k = k} {es = es} looked .answer in
+        rw (good, may, answer, looked-slot k es looked) (unchanged formed, refl)
 
-    pub lookup-finds-nothing : lookedUp k 0 es ≡ Nothing
+    pub lookup-finds-nothing : lookedUp k es ≡ Nothing
         → Answers ws ws (perform model (lookup n k)) (Yes NotFound)
     unfolding perform
     lookup-finds-nothing looked =

@@ -79,12 +79,12 @@ abbrev pub goodShape : Model → Shape → Bool
 goodShape m s = freeShape s || all (map (λ test. test s) (shapeTests m))
 
 -- The attributes are of equal width where the key is held.
-abbrev pub widthFits : (key attributes : ℕ) → List Entry → Bool
-widthFits k a es = not (has k es) || sameWidth (attributesIn k es) a
+abbrev pub widthFits : (absent : Bool) → (key attributes : ℕ) → List Entry → Bool
+widthFits absent k a es = if has k es then sameWidth (attributesIn k es) a else absent
 
 -- The same of a property edge that has a child.
 abbrev pub LiveFits : List Entry → Edge → Type 0
-LiveFits es e = e .child ≢ 0 → e .kind ≡ 0 → widthFits (e .label) (e .attributes) es ≡ true
+LiveFits es e = e .child ≢ 0 → e .kind ≡ 0 → widthFits true (e .label) (e .attributes) es ≡ true
 
 abbrev pub leadsTo : Shape → Edge → Bool
 leadsTo s e = shared s && eqb (s .previous) (e .parent) && eqb (edgeKind (stepOf (s .step) e)) (e .kind)
