@@ -17,11 +17,11 @@ good-key-requires c κs = search needs
 
 returns : tie.Need-returns
 returns c =
-    change-bad-key _ _ _ _ (sym (c .before .good-key .ensures) ∙ not-true _ (c .if1 .taken))
+    change-bad-key _ _ _ _ (sym (@good-key .ensures) ∙ not-true _ (@if1 .taken))
 
 returns-2 : tie.Need-returns-2
 returns-2 c =
-    change-bad-attributes _ _ _ _ (sym (c .before .before .good-key .ensures) ∙ not-false _ (c .before .if1 .left)) (c .if2 .taken)
+    change-bad-attributes _ _ _ _ (sym (@good-key .ensures) ∙ not-false _ (@if1 .left)) (@if2 .taken)
 
 is-held-requires : tie.Need-is-held-requires
 is-held-requires c κs = search needs
@@ -31,11 +31,11 @@ same-length c = search needs
 
 returns-3 : tie.Need-returns-3
 returns-3 c =
-    change-no-shape _ _ _ _ (sym (c .before .before .before .before .before .good-key .ensures) ∙ not-false _ (c .before .before .before .before .if1 .left)) (c .before .before .before .if2 .left) (not-held _ _ (c .before .is-held .ensures) (c .if3 .taken))
+    change-no-shape _ _ _ _ (sym (@good-key .ensures) ∙ not-false _ (@if1 .left)) (@if2 .left) (not-held _ _ (@is-held .ensures) (@if3 .taken))
 
 find-requires : tie.Need-find-requires
 find-requires c κs =
-    (c .before .before .before .before .before .before .before .before .pre .0, (c .before .before .before .before .before .before .before .before .pre .1, may-act _ (c .before .before .before .before .before .before .before .before .pre .1) _ (may-name _ _ (c .before .before .is-held .ensures) (c .before .if3 .left)) .isUsed))
+    (@pre .0, (@pre .1, may-act _ (@pre .1) _ (may-name _ _ (@is-held .ensures) (@if3 .left)) .isUsed))
 
 enum-told : tie.Need-enum-told
 enum-told c = search needs
@@ -48,21 +48,21 @@ cast-t22 c = search needs
 
 change-requires : tie.Need-change-requires
 change-requires c κs =
-    let its = (looked-held {k = c .before .before .before .before .before .before .before .before .before .before .before .before .before .before .before .args .key} {es = entriesAt (parse (now (c .before .before .before .before .before .before .before .before .before .before .before .before .before .before .before .args .image))) (c .before .before .before .before .before .before .before .before .before .before .before .before .before .before .before .args .n)} (sym (c .before .before .before .before .before .before .find .ensures) ∙ c .before .before .before .before .p .given .1)) in (c .before .before .before .before .before .before .before .before .before .before .before .before .before .before .before .pre .0, (c .before .before .before .before .before .before .before .before .before .before .before .before .before .before .before .pre .1, ((may-name _ _ (c .before .before .before .before .before .before .before .before .before .is-held .ensures) (c .before .before .before .before .before .before .before .before .if3 .left)), (its .held, ((sym (c .before .before .before .before .before .before .before .before .before .before .before .before .before .good-key .ensures) ∙ not-false _ (c .before .before .before .before .before .before .before .before .before .before .before .before .if1 .left)), (c .before .before .before .before .before .before .before .before .before .before .before .if2 .left, sym (its .attributes)))))))
+    let its = (looked-held {k = @args .key} {es = entriesAt (parse (now (@args .image))) (@args .n)} (sym (@find .ensures) ∙ @p .given .1)) in (@pre .0, (@pre .1, ((may-name _ _ (@is-held .ensures) (@if3 .left)), (its .held, ((sym (@good-key .ensures) ∙ not-false _ (@if1 .left)), (@if2 .left, sym (its .attributes)))))))
 
 same-length-2 : tie.Need-same-length-2
 same-length-2 c = search needs
 
 returns-4 : tie.Need-returns-4
 returns-4 c =
-    change-absent _ _ _ _ (sym (c .before .before .before .before .before .before .before .before .before .good-key .ensures) ∙ not-false _ (c .before .before .before .before .before .before .before .before .if1 .left)) (c .before .before .before .before .before .before .before .if2 .left) (may-name _ _ (c .before .before .before .before .before .is-held .ensures) (c .before .before .before .before .if3 .left)) (looked-absent {k = c .before .before .before .before .before .before .before .before .before .before .before .args .key} {es = entriesAt (parse (now (c .before .before .before .before .before .before .before .before .before .before .before .args .image))) (c .before .before .before .before .before .before .before .before .before .before .before .args .n)} (sym (c .before .before .find .ensures) ∙ c .enum-told .given .1) .held)
+    change-absent _ _ _ _ (sym (@good-key .ensures) ∙ not-false _ (@if1 .left)) (@if2 .left) (may-name _ _ (@is-held .ensures) (@if3 .left)) (looked-absent {k = @args .key} {es = entriesAt (parse (now (@args .image))) (@args .n)} (sym (@find .ensures) ∙ @enum-told .given .1) .held)
 
 same-length-3 : tie.Need-same-length-3
 same-length-3 c = search needs
 
 returns-5 : tie.Need-returns-5
 returns-5 c =
-    let its = (looked-held {k = c .before .before .before .before .before .before .before .before .before .before .before .before .before .before .before .before .before .before .args .key} {es = entriesAt (parse (now (c .before .before .before .before .before .before .before .before .before .before .before .before .before .before .before .before .before .before .args .image))) (c .before .before .before .before .before .before .before .before .before .before .before .before .before .before .before .before .before .before .args .n)} (sym (c .before .before .before .before .before .before .before .before .before .find .ensures) ∙ c .before .before .before .before .before .before .before .p .given .1)) in rw (change-is _ _ _ _ (sym (c .before .before .before .before .before .before .before .before .before .before .before .before .before .before .before .before .good-key .ensures) ∙ not-false _ (c .before .before .before .before .before .before .before .before .before .before .before .before .before .before .before .if1 .left)) (c .before .before .before .before .before .before .before .before .before .before .before .before .before .before .if2 .left) (may-name _ _ (c .before .before .before .before .before .before .before .before .before .before .before .before .is-held .ensures) (c .before .before .before .before .before .before .before .before .before .before .before .if3 .left)) (its .held), its .attributes) (c .before .before .change .ensures)
+    let its = (looked-held {k = @args .key} {es = entriesAt (parse (now (@args .image))) (@args .n)} (sym (@find .ensures) ∙ @p .given .1)) in rw (change-is _ _ _ _ (sym (@good-key .ensures) ∙ not-false _ (@if1 .left)) (@if2 .left) (may-name _ _ (@is-held .ensures) (@if3 .left)) (its .held), its .attributes) (@change .ensures)
 
 pub change-attributes-transition-spec : {M : Type 1} → statement M
 change-attributes-transition-spec =

@@ -1,0 +1,80 @@
+-- `unique_shape::change_attributes_transition` meets its contract. Assumes nothing.
+use mathlib.Core.Path.{sym}
+use Rattle.theorems.specs.Uniques.{is-used}
+use borrow.Author.Needs.{needs}
+use Rattle.unique_shape.specs.OwnTable.{shape-place, own-table}
+use Rattle.unique_shape.specs.Rules.{its-entry, change-same, change-moved}
+use Rattle.unique_shape.proofs.change_attributes_transition.Statement.{statement}
+use Rattle.unique_shape.proofs.change_attributes_transition.Tie as tie
+
+get-shape-requires : tie.Need-get-shape-requires
+get-shape-requires c κs =
+    let pre = c .before .before .pre in
+    (pre .0, shape-place _ (pre .1 .0) _ (pre .1 .1 .0))
+
+find-held-requires : tie.Need-find-held-requires
+find-held-requires c κs =
+    let pre = c .before .before .before .before .pre in
+    (pre .0, (pre .1 .0, (is-used _ (pre .1 .0) _ (pre .1 .1 .0), pre .1 .1 .1 .0)))
+
+width-match-requires : tie.Need-width-match-requires
+width-match-requires c κs = search needs
+
+set-attributes-at-index-requires : tie.Need-set-attributes-at-index-requires
+set-attributes-at-index-requires c κs =
+    let pre = c .before .before .before .before .before .before .before .before .before .before .pre in
+    let get-shape = c .before .before .before .before .before .before .before .get-shape in
+    let find-held = c .before .before .before .before .before .find-held in
+    let read = get-shape .ensures in
+    let own = own-table _ (pre .1 .0) _ (pre .1 .1 .0) read in
+    let its = its-entry _ _ _ (sym (find-held .ensures)) in
+    (pre .0, (own .place, (rw (← read, own .whole) at (its .inside), own .differ)))
+
+same-length : tie.Need-same-length
+same-length c = c .before .before .set-attributes-at-index .ensures .long
+
+returns : tie.Need-returns
+returns c =
+    let pre = c .before .before .before .before .before .before .before .before .before .before .before .before .before .pre in
+    let get-shape = c .before .before .before .before .before .before .before .before .before .before .get-shape in
+    let find-held = c .before .before .before .before .before .before .before .before .find-held in
+    let width-match = c .before .before .before .before .before .width-match in
+    let if1 = c .before .before .before .before .if1 in
+    let set-attributes-at-index = c .before .before .set-attributes-at-index in
+    let own = own-table _ (pre .1 .0) _ (pre .1 .1 .0) (get-shape .ensures) in
+    change-same _ _ _ (sym (find-held .ensures)) _ (width-match .ensures) (get-shape .ensures) own
+    (if1 .taken) (set-attributes-at-index .ensures)
+
+replace-requires : tie.Need-replace-requires
+replace-requires c κs =
+    let pre = c .before .before .before .before .before .before .before .before .before .before .pre in
+    let find-held = c .before .before .before .before .before .find-held in
+    let its = its-entry _ _ _ (sym (find-held .ensures)) in
+    (pre .0, (pre .1 .0, (pre .1 .1 .0, (its .inside, pre .1 .1 .1 .1))))
+
+same-length-2 : tie.Need-same-length-2
+same-length-2 c = search needs
+
+returns-2 : tie.Need-returns-2
+returns-2 c =
+    let get-shape = c .before .before .before .before .before .before .before .before .before .before .get-shape in
+    let find-held = c .before .before .before .before .before .before .before .before .find-held in
+    let width-match = c .before .before .before .before .before .width-match in
+    let if1 = c .before .before .before .before .if1 in
+    let replace = c .before .before .replace in
+    change-moved _ _ _ (sym (find-held .ensures)) _ (width-match .ensures) _ _ (get-shape .ensures)
+    (if1 .left) (replace .ensures)
+
+pub change-attributes-transition-spec : {M : Type 1} → statement M
+change-attributes-transition-spec =
+    tie.close
+    (tie.spec
+    get-shape-requires
+    find-held-requires
+    width-match-requires
+    set-attributes-at-index-requires
+    same-length
+    returns
+    replace-requires
+    same-length-2
+    returns-2)
