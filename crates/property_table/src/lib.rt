@@ -199,7 +199,13 @@ pub fn copy_without(image: &mut [u32], from: u32, to: u32, position: KeyPosition
 {
     let count = entry_count(image, from);
     copy_entries(image, from, to, position.0);
-    append_entries(image, from, to, KeyPosition(position.0 + 1), KeyPosition(count));
+    append_entries(
+        image,
+        from,
+        to,
+        KeyPosition(position.0 + 1),
+        KeyPosition(count),
+    );
 }
 
 pub fn copy_changed(

@@ -156,7 +156,8 @@ module _ (es : List Entry) (e : Edge) where
         → fits ≡ widthFits true (e .label) (e .attributes) es
         → (good && fits) ≡ goodLabel es e
     label-answer q good fits =
-        rw (property, le-leb (e .attributes) 31 q, good, fits, and-true) (same (goodKey (e .label)) (has (e .label) es) _)
+        let key = goodKey (e .label) in
+        rw (property, le-leb (e .attributes) 31 q, good, fits, and-true) (same key (has (e .label) es) _)
       where
         same : (a b c : Bool) → (a && (if b then c else true)) ≡ (a && (not b || c))
         same a true c = refl

@@ -38,7 +38,8 @@ fn label_is_good(image: &[u32], parent: Shape, e: Edge) -> bool
     if e.child != 0 {
         return good;
     }
-    good & width_fits(image, parent, e.label, SlotAttributes(e.attributes as u8), true)
+    let attributes = SlotAttributes(e.attributes as u8);
+    good & width_fits(image, parent, e.label, attributes, true)
 }
 
 // The kind of the edges that a step kind has.

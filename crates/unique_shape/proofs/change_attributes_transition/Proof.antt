@@ -22,9 +22,12 @@ width-match-requires c κs = search needs
 
 set-attributes-at-index-requires : tie.Need-set-attributes-at-index-requires
 set-attributes-at-index-requires c κs =
-    let pre = c .before .before .before .before .before .before .before .before .before .before .pre in
-    let get-shape = c .before .before .before .before .before .before .before .get-shape in
-    let find-held = c .before .before .before .before .before .find-held in
+    let at-find-held = c .before .before .before .before .before in
+    let find-held = at-find-held .find-held in
+    let at-get-shape = at-find-held .before .before in
+    let get-shape = at-get-shape .get-shape in
+    let at-start = at-get-shape .before .before .before in
+    let pre = at-start .pre in
     let read = get-shape .ensures in
     let own = own-table _ (pre .1 .0) _ (pre .1 .1 .0) read in
     let its = its-entry _ _ _ (sym (find-held .ensures)) in
@@ -35,20 +38,28 @@ same-length c = c .before .before .set-attributes-at-index .ensures .long
 
 returns : tie.Need-returns
 returns c =
-    let pre = c .before .before .before .before .before .before .before .before .before .before .before .before .before .pre in
-    let get-shape = c .before .before .before .before .before .before .before .before .before .before .get-shape in
-    let find-held = c .before .before .before .before .before .before .before .before .find-held in
-    let width-match = c .before .before .before .before .before .width-match in
-    let if1 = c .before .before .before .before .if1 in
-    let set-attributes-at-index = c .before .before .set-attributes-at-index in
+    let at-set-attributes-at-index = c .before .before in
+    let set-attributes-at-index = at-set-attributes-at-index .set-attributes-at-index in
+    let at-if1 = at-set-attributes-at-index .before .before in
+    let if1 = at-if1 .if1 in
+    let at-width-match = at-if1 .before in
+    let width-match = at-width-match .width-match in
+    let at-find-held = at-width-match .before .before .before in
+    let find-held = at-find-held .find-held in
+    let at-get-shape = at-find-held .before .before in
+    let get-shape = at-get-shape .get-shape in
+    let at-start = at-get-shape .before .before .before in
+    let pre = at-start .pre in
     let own = own-table _ (pre .1 .0) _ (pre .1 .1 .0) (get-shape .ensures) in
     change-same _ _ _ (sym (find-held .ensures)) _ (width-match .ensures) (get-shape .ensures) own
     (if1 .taken) (set-attributes-at-index .ensures)
 
 replace-requires : tie.Need-replace-requires
 replace-requires c κs =
-    let pre = c .before .before .before .before .before .before .before .before .before .before .pre in
-    let find-held = c .before .before .before .before .before .find-held in
+    let at-find-held = c .before .before .before .before .before in
+    let find-held = at-find-held .find-held in
+    let at-start = at-find-held .before .before .before .before .before in
+    let pre = at-start .pre in
     let its = its-entry _ _ _ (sym (find-held .ensures)) in
     (pre .0, (pre .1 .0, (pre .1 .1 .0, (its .inside, pre .1 .1 .1 .1))))
 
@@ -57,11 +68,16 @@ same-length-2 c = search needs
 
 returns-2 : tie.Need-returns-2
 returns-2 c =
-    let get-shape = c .before .before .before .before .before .before .before .before .before .before .get-shape in
-    let find-held = c .before .before .before .before .before .before .before .before .find-held in
-    let width-match = c .before .before .before .before .before .width-match in
-    let if1 = c .before .before .before .before .if1 in
-    let replace = c .before .before .replace in
+    let at-replace = c .before .before in
+    let replace = at-replace .replace in
+    let at-if1 = at-replace .before .before in
+    let if1 = at-if1 .if1 in
+    let at-width-match = at-if1 .before in
+    let width-match = at-width-match .width-match in
+    let at-find-held = at-width-match .before .before .before in
+    let find-held = at-find-held .find-held in
+    let at-get-shape = at-find-held .before .before in
+    let get-shape = at-get-shape .get-shape in
     change-moved _ _ _ (sym (find-held .ensures)) _ (width-match .ensures) _ _ (get-shape .ensures)
     (if1 .left) (replace .ensures)
 

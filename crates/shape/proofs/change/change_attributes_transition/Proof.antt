@@ -63,15 +63,23 @@ cast-t22 c = search needs
 
 change-requires : tie.Need-change-requires
 change-requires c κs =
-    let args = c .before .before .before .before .before .before .before .before .before .before .before .before .before .before .before .args in
-    let pre = c .before .before .before .before .before .before .before .before .before .before .before .before .before .before .before .pre in
-    let good-key = c .before .before .before .before .before .before .before .before .before .before .before .before .before .good-key in
-    let if1 = c .before .before .before .before .before .before .before .before .before .before .before .before .if1 in
-    let if2 = c .before .before .before .before .before .before .before .before .before .before .before .if2 in
-    let is-held = c .before .before .before .before .before .before .before .before .before .is-held in
-    let if3 = c .before .before .before .before .before .before .before .before .if3 in
-    let find = c .before .before .before .before .before .before .find in
-    let p = c .before .before .before .before .p in
+    let at-p = c .before .before .before .before in
+    let p = at-p .p in
+    let at-find = at-p .before .before in
+    let find = at-find .find in
+    let at-if3 = at-find .before .before in
+    let if3 = at-if3 .if3 in
+    let at-is-held = at-if3 .before in
+    let is-held = at-is-held .is-held in
+    let at-if2 = at-is-held .before .before in
+    let if2 = at-if2 .if2 in
+    let at-if1 = at-if2 .before in
+    let if1 = at-if1 .if1 in
+    let at-good-key = at-if1 .before in
+    let good-key = at-good-key .good-key in
+    let at-start = at-good-key .before .before in
+    let args = at-start .args in
+    let pre = at-start .pre in
     let es = entriesAt (parse (now (args .image))) (args .n) in
     let found = sym (find .ensures) ∙ p .given .1 in
     let held = looked-held {k = args .key} {es = es} found .held in
@@ -85,14 +93,21 @@ same-length-2 c = search needs
 
 returns-4 : tie.Need-returns-4
 returns-4 c =
-    let args = c .before .before .before .before .before .before .before .before .before .before .before .args in
-    let good-key = c .before .before .before .before .before .before .before .before .before .good-key in
-    let if1 = c .before .before .before .before .before .before .before .before .if1 in
-    let if2 = c .before .before .before .before .before .before .before .if2 in
-    let is-held = c .before .before .before .before .before .is-held in
-    let if3 = c .before .before .before .before .if3 in
-    let find = c .before .before .find in
     let enum-told = c .enum-told in
+    let at-find = c .before .before in
+    let find = at-find .find in
+    let at-if3 = at-find .before .before in
+    let if3 = at-if3 .if3 in
+    let at-is-held = at-if3 .before in
+    let is-held = at-is-held .is-held in
+    let at-if2 = at-is-held .before .before in
+    let if2 = at-if2 .if2 in
+    let at-if1 = at-if2 .before in
+    let if1 = at-if1 .if1 in
+    let at-good-key = at-if1 .before in
+    let good-key = at-good-key .good-key in
+    let at-start = at-good-key .before .before in
+    let args = at-start .args in
     let es = entriesAt (parse (now (args .image))) (args .n) in
     let none = looked-absent {k = args .key} {es = es} (sym (find .ensures) ∙ enum-told .given .1) in
     let key = sym (good-key .ensures) ∙ not-false _ (if1 .left) in
@@ -104,15 +119,24 @@ same-length-3 c = search needs
 
 returns-5 : tie.Need-returns-5
 returns-5 c =
-    let args = c .before .before .before .before .before .before .before .before .before .before .before .before .before .before .before .before .before .before .args in
-    let good-key = c .before .before .before .before .before .before .before .before .before .before .before .before .before .before .before .before .good-key in
-    let if1 = c .before .before .before .before .before .before .before .before .before .before .before .before .before .before .before .if1 in
-    let if2 = c .before .before .before .before .before .before .before .before .before .before .before .before .before .before .if2 in
-    let is-held = c .before .before .before .before .before .before .before .before .before .before .before .before .is-held in
-    let if3 = c .before .before .before .before .before .before .before .before .before .before .before .if3 in
-    let find = c .before .before .before .before .before .before .before .before .before .find in
-    let p = c .before .before .before .before .before .before .before .p in
-    let change = c .before .before .change in
+    let at-change = c .before .before in
+    let change = at-change .change in
+    let at-p = at-change .before .before .before .before .before in
+    let p = at-p .p in
+    let at-find = at-p .before .before in
+    let find = at-find .find in
+    let at-if3 = at-find .before .before in
+    let if3 = at-if3 .if3 in
+    let at-is-held = at-if3 .before in
+    let is-held = at-is-held .is-held in
+    let at-if2 = at-is-held .before .before in
+    let if2 = at-if2 .if2 in
+    let at-if1 = at-if2 .before in
+    let if1 = at-if1 .if1 in
+    let at-good-key = at-if1 .before in
+    let good-key = at-good-key .good-key in
+    let at-start = at-good-key .before .before in
+    let args = at-start .args in
     let es = entriesAt (parse (now (args .image))) (args .n) in
     let found = sym (find .ensures) ∙ p .given .1 in
     let held = looked-held {k = args .key} {es = es} found .held in

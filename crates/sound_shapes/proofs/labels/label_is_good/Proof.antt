@@ -35,8 +35,8 @@ returns-3 c =
     live-answer (entries (parse (now (args .image))) (args .parent)) (args .e) (if1 .left) (if2 .left)
     (good-key .ensures) (if3 .taken) (pre .1 .1)
 
-cast-t6 : tie.Need-cast-t6
-cast-t6 c = omega (arith, c .before .before .before .before .if2 .left)
+cast-t7 : tie.Need-cast-t7
+cast-t7 c = omega (arith, c .before .before .before .before .if2 .left)
 
 width-fits-requires : tie.Need-width-fits-requires
 width-fits-requires c κs =
@@ -61,6 +61,6 @@ label-is-good-spec =
     returns-2
     good-key-requires
     returns-3
-    cast-t6
+    cast-t7
     width-fits-requires
     returns-4)

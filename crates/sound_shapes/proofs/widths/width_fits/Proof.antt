@@ -47,7 +47,8 @@ returns c =
     let position-of = c .before .before .position-of in
     let enum-told = c .enum-told in
     let nowhere = sym (position-of .ensures) ∙ enum-told .given .1 in
-    absent-answer (args .key) (args .attributes .0) (entries (parse (now (args .image))) (args .s)) (args .absent) nowhere
+    let es = entries (parse (now (args .image))) (args .s) in
+    absent-answer (args .key) (args .attributes .0) es (args .absent) nowhere
 
 returns-2 : tie.Need-returns-2
 returns-2 c =
