@@ -161,11 +161,11 @@ pub fn append_entries(image: &mut [u32], from: u32, to: u32, start: KeyPosition,
         (copied (parse (now (image .entry))) from to (start .0) (end .0))
         ⌝ }
 {
-    let mut at = start;
-    while at.0 < end.0 {
-        let e = get_entry(image, from, at);
+    let mut position = start;
+    while position.0 < end.0 {
+        let e = get_entry(image, from, position);
         append(image, to, e.key, SlotAttributes(e.attributes as u8));
-        at.0 += 1;
+        position.0 += 1;
     }
 }
 
@@ -287,11 +287,11 @@ fn count_kind(image: &[u32], table: u32, count: u32, kind: u32) -> u32
     ensures { λ r. ⌜ r ≡ length (listed kind (take count (entriesIn (now (image .entry)) table))) ⌝ }
 {
     let mut n = 0;
-    let mut i = 0;
-    while i < count {
-        let e = get_entry(image, table, KeyPosition(i));
+    let mut position = KeyPosition(0);
+    while position.0 < count {
+        let e = get_entry(image, table, position);
         n += of_kind(e.key, kind);
-        i += 1;
+        position.0 += 1;
     }
     n
 }
@@ -332,11 +332,11 @@ fn write_kind(image: &[u32], table: u32, count: u32, kind: u32, out: &mut [u32],
         ⌝ }
 {
     let mut end = at;
-    let mut i = 0;
-    while i < count {
-        let e = get_entry(image, table, KeyPosition(i));
+    let mut position = KeyPosition(0);
+    while position.0 < count {
+        let e = get_entry(image, table, position);
         end = write_key(e.key, kind, out, end);
-        i += 1;
+        position.0 += 1;
     }
     end
 }

@@ -69,14 +69,14 @@ fn same_first(image: &[u32], p: Shape, s: Shape, edge: Edge, configures: bool) -
         return true;
     }
     let count = p.properties;
-    let mut done = 0;
-    while done < count {
-        let old = get_entry(image, p.table, KeyPosition(done));
-        let new = get_entry(image, s.table, KeyPosition(done));
+    let mut position = KeyPosition(0);
+    while position.0 < count {
+        let old = get_entry(image, p.table, position);
+        let new = get_entry(image, s.table, position);
         if !is_same(new, entry_after(configures, edge, old)) {
             return false;
         }
-        done += 1;
+        position.0 += 1;
     }
     true
 }

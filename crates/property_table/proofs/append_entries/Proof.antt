@@ -8,10 +8,11 @@ use Rattle.property_table.proofs.append_entries.Statement.{statement}
 use Rattle.property_table.proofs.append_entries.Tie as tie
 
 abbrev Inv-loop : tie.InvT-loop
-Inv-loop image₀ from to end at₀ image at = Copying image₀ from to (at₀ .0) (end .0) (at .0) image
+Inv-loop image₀ from to end position₀ image position =
+    Copying image₀ from to (position₀ .0) (end .0) (position .0) image
 
 abbrev μ-loop : tie.MeasureT-loop
-μ-loop image₀ from to end at₀ image at = end .0 - at .0
+μ-loop image₀ from to end position₀ image position = end .0 - position .0
 
 loop-holds : tie.Need-loop-holds Inv-loop μ-loop
 loop-holds c = copy-start (c .before .pre .0) (c .before .pre .1)
@@ -40,8 +41,8 @@ append-requires c κs =
     let room = ready .room in
     (loop .inv .so-far .formed, (target, (ready .inUse, (omega (arith, if1 .taken), ready .slotted))))
 
-add-at : tie.Need-add-at Inv-loop μ-loop
-add-at c = search needs
+add-position : tie.Need-add-position Inv-loop μ-loop
+add-position c = search needs
 
 loop-less : tie.Need-loop-less Inv-loop μ-loop
 loop-less c = search needs
@@ -70,7 +71,7 @@ append-entries-spec =
     get-entry-requires
     cast-t14
     append-requires
-    add-at
+    add-position
     loop-less
     loop-again
     same-length
