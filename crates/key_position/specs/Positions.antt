@@ -27,6 +27,7 @@ abbrev pub keysBefore : (key : ℕ) → List Entry → ℕ
 keysBefore k [] = 0
 keysBefore k (e ∷ es) = if isKey k e then 0 else suc (keysBefore k es)
 
+-- The position of a key, if one of the entries has it.
 abbrev pub positionOf : (key : ℕ) → List Entry → OptionalPosition
 positionOf k es = if has k es then At (record { 0 = keysBefore k es }) else Nothing
 

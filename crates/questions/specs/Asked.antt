@@ -14,9 +14,8 @@ use Rattle.store.specs.declared.Entry.{Entry}
 use Rattle.rules.specs.declared.Refusal.the-variants.{BadKey, NoShape, OutShort}
 use Rattle.rules.specs.Numbers.{goodKey}
 use Rattle.rules.specs.Shapes.{entries}
-use Rattle.rules.specs.Refusals.{Got, ok, refused}
 use Rattle.rules.specs.Sweep.{keyList}
-use Rattle.rules.specs.Calls.{Answer, Given, Freed, Done, Found, NotFound, Listed, Number, No, Yes, unheld}
+use Rattle.rules.specs.Calls.{Found, NotFound, Listed, Number, No, Yes, unheld}
 use Rattle.rules.specs.Calls.{perform}
 use Rattle.rules.specs.Calls.{lookup, keysInto, prototypeOf, isShared, transitionsOf, propertiesOf}
 use Rattle.rules.specs.Replies.{Answers}
