@@ -10,6 +10,7 @@ use borrow.Author.Tests.{eq-eqb, ne-eqb, le-leb, not-true}
 use lib.ListN.{length}
 use lib.Seq.{take-all, getD-take, length-take-le}
 use Rattle.slot.specs.Attributes.{mostStored}
+use Rattle.slot.specs.declared.KeyPosition.{KeyPosition}
 use Rattle.store.specs.Lists.{lowest}
 use Rattle.store.specs.Model.{Table, Model, free, used, noEntry, freeTable, tableAt, putTable}
 use Rattle.store.specs.Layout.{parse}
@@ -29,12 +30,10 @@ use Rattle.rules.specs.InUse.{used-table-inside}
 use Rattle.theorems.specs.Facts.{GoodTable}
 use Rattle.theorems.specs.Entries.{keys, good-keys, attributes-take}
 use Rattle.theorems.specs.Taken.{bind-passed, place-passed, place-lowest}
+use Rattle.key_position.specs.Positions.{positionOf, Stands, stands-at}
+use Rattle.key_position.specs.declared.OptionalPosition.the-variants.{At}
 use Rattle.property_table.specs.Slotted.{Slotted, good-slotted}
 use Rattle.property_table.specs.Copies.{Apart}
-use Rattle.property_table.specs.Lookup.{lookedUp, Held, looked-held, looked-absent}
-use Rattle.property_table.specs.declared.Property.{Property}
-use Rattle.property_table.specs.declared.OptionalProperty.{OptionalProperty}
-use Rattle.property_table.specs.declared.OptionalProperty.the-variants.{At, Nothing}
 use Rattle.property_table.specs.OneKey.{keyAt, configured-laid}
 
 -- The step t may be taken from the shape s, as far as its table goes.
@@ -123,7 +122,7 @@ module _ {m : Model} {s : Shape} {k a : ℕ} (p : Parent m s (insert k a)) where
 -- ## Configure
 
 module _ {m : Model} {s : Shape} {k a : ℕ} (p : Parent m s (configure k a)) where
-  is-held : has k (entries m s) ≡ true
+  pub is-held : has k (entries m s) ≡ true
   is-held = and-both (has k (entries m s)) (p .may) .0
 
   pub configure-copies : {to : ℕ} → Passes (childTable m s (configure k a))
@@ -132,37 +131,28 @@ module _ {m : Model} {s : Shape} {k a : ℕ} (p : Parent m s (configure k a)) wh
   unfolding childTable
   configure-copies = copy refl
 
-  -- The key was looked up.
-  module _ {found : OptionalProperty} (looked : found ≡ lookedUp k 0 (entries m s)) where
-    pub not-nothing : {A : Type 0} → found ≡ Nothing → A
-    not-nothing none = not-both is-held (looked-absent {k = k} {es = entries m s} (sym looked ∙ none) .held)
+  module _ {position : KeyPosition} (its : At position ≡ positionOf k (entries m s)) where
+    abbrev i : ℕ
+    i = position .0
 
-    module _ {property : Property} (its : found ≡ At property) where
-      abbrev i : ℕ
-      i = property .position .0
+    held : Stands k (entries m s) i
+    held = stands-at k (entries m s) (sym its)
 
-      held : Held k (entries m s) i (property .slot)
-      held = looked-held (sym looked ∙ its)
+    inside : i < s .properties
+    inside = omega (arith, held .inside, length-take-le (s .properties) (tableOf m s) (p .fits))
 
-      long : length (entries m s) ≡ s .properties
-      long = length-take-le (s .properties) (tableOf m s) (p .fits)
+    pub position-inside : i < length (tableOf m s)
+    position-inside = omega (arith, inside, p .fits)
 
-      pub position-inside : i < length (tableOf m s)
-      position-inside =
-          let inside = held .inside in
-          let fits = p .fits in
-          omega (arith, long)
-
-      -- At equal width the slots stay as they are.
-      pub changed : laid 0 (configured (tableOf m s) (keyAt (tableOf m s) i) a) ≡ configured (tableOf m s) k a
-      changed =
-          let es = tableOf m s in
-          let inside : i < s .properties = omega (arith, held .inside, long) in
-          let first = getD-take (s .properties) es i noEntry inside in
-          let same : keyAt es i ≡ k = ap (λ (e : Entry). e .key) (sym first) ∙ held .key in
-          let wide = and-both (has k (entries m s)) (p .may) .1 in
-          let all = rw (attributes-take k (s .properties) es is-held) at wide in
-          rw same (configured-laid k a es (p .good .good) (le-leb a mostStored (p .low)) all)
+    -- At equal width the slots stay as they are.
+    pub changed : laid 0 (configured (tableOf m s) (keyAt (tableOf m s) i) a) ≡ configured (tableOf m s) k a
+    changed =
+        let es = tableOf m s in
+        let first = getD-take (s .properties) es i noEntry inside in
+        let same : keyAt es i ≡ k = ap (λ (e : Entry). e .key) (sym first) ∙ held .key in
+        let wide = and-both (has k (entries m s)) (p .may) .1 in
+        let all = rw (attributes-take k (s .properties) es is-held) at wide in
+        rw same (configured-laid k a es (p .good .good) (le-leb a mostStored (p .low)) all)
 
 -- ## Prototype
 

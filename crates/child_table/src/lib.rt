@@ -1,9 +1,8 @@
 // The table of the child that a step makes of a shared shape.
-use property_table::OptionalProperty;
+use key_position::position_of_held;
 use property_table::append;
 use property_table::copy_changed;
 use property_table::copy_entries;
-use property_table::lookup;
 use rules::StepRecord;
 use slot::SlotAttributes;
 use store::Shape;
@@ -38,7 +37,7 @@ fn insert_table(image: &mut [u32], s: Shape, key: u32, attributes: u32) -> u32
     table
 }
 
-// A shape whose step may be taken has the key: the answer without it is never given.
+// A shape whose step may be taken holds the key.
 fn configure_table(image: &mut [u32], s: Shape, key: u32, attributes: u32) -> u32
     requires { ⌜ Formed (now image) ⌝ }
     requires { ⌜ Parent (parse (now image)) s (configure key attributes) ⌝ }
@@ -49,13 +48,10 @@ fn configure_table(image: &mut [u32], s: Shape, key: u32, attributes: u32) -> u3
         ⌝ }
 {
     let from = s.table;
-    let found = lookup(image, from, s.properties, key);
-    let OptionalProperty::At(property) = found else {
-        return from;
-    };
+    let position = position_of_held(image, from, s.properties, key);
     let table = lowest_free_table(image);
     let byte = SlotAttributes(attributes as u8);
-    copy_changed(image, from, table, property.position, byte);
+    copy_changed(image, from, table, position, byte);
     table
 }
 

@@ -1,4 +1,7 @@
 // A table of properties in the lent image: keys in order, each with its slot.
+use key_position::OptionalPosition;
+use key_position::position_of;
+use key_position::position_of_held;
 use slot::KeyPosition;
 use slot::OptionalSlot;
 use slot::Slot;
@@ -19,13 +22,14 @@ ghost use Rattle.slot.specs.Attributes.{mostStored};
 ghost use Rattle.store.specs.Model.{shapeAt, tableAt, putTable, freeTable, free, used};
 ghost use Rattle.store.specs.Layout.{parse};
 ghost use Rattle.store.specs.Image.{Formed, Place, Becomes};
-ghost use Rattle.rules.specs.Shapes.{entries, appended, configured, without, laid};
+ghost use Rattle.rules.specs.Shapes.{has, entries, appended, configured, without, laid};
 ghost use Rattle.rules.specs.Sound.{distinct};
 ghost use Rattle.rules.specs.Sweep.{keyList};
 ghost use Rattle.theorems.specs.Facts.{Used, Sound};
 ghost use Rattle.theorems.specs.Entries.{keys};
 ghost use Rattle.property_table.specs.Slotted.{Slotted, slotIn, slotBefore};
-ghost use Rattle.property_table.specs.Lookup.{lookedUp};
+ghost use Rattle.property_table.specs.Lookup.{propertyAt, lookedUp};
+ghost use Rattle.property_table.specs.declared.OptionalProperty.the-variants.{At};
 ghost use Rattle.property_table.specs.Copies.{entriesIn, Apart, Copyable, copied};
 ghost use Rattle.property_table.specs.OneKey.{keyAt};
 ghost use Rattle.property_table.specs.KeyLists.{listed, oneListed, written};
@@ -53,25 +57,31 @@ fn slot_in(e: Entry) -> Slot
     }
 }
 
+fn property_at(image: &[u32], table: u32, position: KeyPosition) -> Property
+    requires { ⌜ Formed (now image) ⌝ }
+    requires { ⌜ Place (length (parse (now image) .tables)) table ⌝ }
+    requires { ⌜ position .0 < length (entriesIn (now image) table) ⌝ }
+    requires { ⌜ Slotted (entriesIn (now image) table) ⌝ }
+    ensures { λ r. ⌜ r ≡ propertyAt (entriesIn (now (image .entry)) table) position ⌝ }
+{
+    let slot = slot_in(get_entry(image, table, position));
+    Property { position, slot }
+}
+
 // Shapes share a table, and a shape's own keys are the first `count` of it.
 pub fn lookup(image: &[u32], table: u32, count: u32, key: u32) -> OptionalProperty
     requires { ⌜ Formed (now image) ⌝ }
     requires { ⌜ Place (length (parse (now image) .tables)) table ⌝ }
     requires { ⌜ count ≤ length (entriesIn (now image) table) ⌝ }
     requires { ⌜ Slotted (entriesIn (now image) table) ⌝ }
-    ensures { λ r. ⌜ r ≡ lookedUp key 0 (take count (entriesIn (now (image .entry)) table)) ⌝ }
+    ensures { λ r. ⌜ r ≡ lookedUp key (take count (entriesIn (now (image .entry)) table)) ⌝ }
 {
-    let mut at = 0;
-    while at < count {
-        let position = KeyPosition(at);
-        let e = get_entry(image, table, position);
-        if e.key == key {
-            let slot = slot_in(e);
-            return OptionalProperty::At(Property { position, slot });
+    match position_of(image, table, count, key) {
+        OptionalPosition::At(position) => {
+            OptionalProperty::At(property_at(image, table, position))
         }
-        at += 1;
+        OptionalPosition::Nothing => OptionalProperty::Nothing,
     }
-    OptionalProperty::Nothing
 }
 
 // A shape's own keys are the first of its table.
@@ -80,11 +90,26 @@ pub fn find(image: &[u32], n: u32, key: u32) -> OptionalProperty
     requires { ⌜ Sound (parse (now image)) ⌝ }
     requires { ⌜ Used (parse (now image)) n ⌝ }
     ensures { λ r. ⌜
-        r ≡ lookedUp key 0 (entries (parse (now (image .entry))) (shapeAt (parse (now (image .entry))) n))
+        r ≡ lookedUp key (entries (parse (now (image .entry))) (shapeAt (parse (now (image .entry))) n))
         ⌝ }
 {
     let s = get_shape(image, n);
     lookup(image, s.table, s.properties, key)
+}
+
+// For a key that the shape is known to hold.
+pub fn find_held(image: &[u32], n: u32, key: u32) -> Property
+    requires { ⌜ Formed (now image) ⌝ }
+    requires { ⌜ Sound (parse (now image)) ⌝ }
+    requires { ⌜ Used (parse (now image)) n ⌝ }
+    requires { ⌜ has key (entries (parse (now image)) (shapeAt (parse (now image)) n)) ≡ true ⌝ }
+    ensures { λ r. ⌜
+        At r ≡ lookedUp key (entries (parse (now (image .entry))) (shapeAt (parse (now (image .entry))) n))
+        ⌝ }
+{
+    let s = get_shape(image, n);
+    let position = position_of_held(image, s.table, s.properties, key);
+    property_at(image, s.table, position)
 }
 
 fn last_slot(image: &[u32], table: u32) -> OptionalSlot
@@ -129,19 +154,19 @@ pub fn append(image: &mut [u32], table: u32, key: u32, attributes: SlotAttribute
     );
 }
 
-pub fn append_entries(image: &mut [u32], from: u32, to: u32, start: u32, end: u32)
+pub fn append_entries(image: &mut [u32], from: u32, to: u32, start: KeyPosition, end: KeyPosition)
     requires { ⌜ Formed (now image) ⌝ }
-    requires { ⌜ Copyable (parse (now image)) from to start end ⌝ }
+    requires { ⌜ Copyable (parse (now image)) from to (start .0) (end .0) ⌝ }
     ensures { λ _. ⌜
         Becomes (now (image .entry)) (now (image .exit))
-        (copied (parse (now (image .entry))) from to start end)
+        (copied (parse (now (image .entry))) from to (start .0) (end .0))
         ⌝ }
 {
-    let mut i = start;
-    while i < end {
-        let e = get_entry(image, from, KeyPosition(i));
+    let mut position = start;
+    while position.0 < end.0 {
+        let e = get_entry(image, from, position);
         append(image, to, e.key, SlotAttributes(e.attributes as u8));
-        i += 1;
+        position.0 += 1;
     }
 }
 
@@ -157,7 +182,7 @@ pub fn copy_entries(image: &mut [u32], from: u32, to: u32, count: u32)
         ⌝ }
 {
     start_table(image, to);
-    append_entries(image, from, to, 0, count);
+    append_entries(image, from, to, KeyPosition(0), KeyPosition(count));
 }
 
 pub fn copy_without(image: &mut [u32], from: u32, to: u32, position: KeyPosition)
@@ -175,7 +200,13 @@ pub fn copy_without(image: &mut [u32], from: u32, to: u32, position: KeyPosition
 {
     let count = entry_count(image, from);
     copy_entries(image, from, to, position.0);
-    append_entries(image, from, to, position.0 + 1, count);
+    append_entries(
+        image,
+        from,
+        to,
+        KeyPosition(position.0 + 1),
+        KeyPosition(count),
+    );
 }
 
 pub fn copy_changed(
@@ -202,8 +233,8 @@ pub fn copy_changed(
     let e = get_entry(image, from, position);
     copy_entries(image, from, to, position.0);
     append(image, to, e.key, attributes);
-    let next = position.0 + 1;
-    append_entries(image, from, to, next, all);
+    let next = KeyPosition(position.0 + 1);
+    append_entries(image, from, to, next, KeyPosition(all));
 }
 
 pub fn set_attributes_at_index(
@@ -257,11 +288,11 @@ fn count_kind(image: &[u32], table: u32, count: u32, kind: u32) -> u32
     ensures { λ r. ⌜ r ≡ length (listed kind (take count (entriesIn (now (image .entry)) table))) ⌝ }
 {
     let mut n = 0;
-    let mut i = 0;
-    while i < count {
-        let e = get_entry(image, table, KeyPosition(i));
+    let mut position = KeyPosition(0);
+    while position.0 < count {
+        let e = get_entry(image, table, position);
         n += of_kind(e.key, kind);
-        i += 1;
+        position.0 += 1;
     }
     n
 }
@@ -302,11 +333,11 @@ fn write_kind(image: &[u32], table: u32, count: u32, kind: u32, out: &mut [u32],
         ⌝ }
 {
     let mut end = at;
-    let mut i = 0;
-    while i < count {
-        let e = get_entry(image, table, KeyPosition(i));
+    let mut position = KeyPosition(0);
+    while position.0 < count {
+        let e = get_entry(image, table, position);
         end = write_key(e.key, kind, out, end);
-        i += 1;
+        position.0 += 1;
     }
     end
 }

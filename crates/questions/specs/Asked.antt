@@ -14,15 +14,13 @@ use Rattle.store.specs.declared.Entry.{Entry}
 use Rattle.rules.specs.declared.Refusal.the-variants.{BadKey, NoShape, OutShort}
 use Rattle.rules.specs.Numbers.{goodKey}
 use Rattle.rules.specs.Shapes.{entries}
-use Rattle.rules.specs.Refusals.{Got, ok, refused}
 use Rattle.rules.specs.Sweep.{keyList}
-use Rattle.rules.specs.Calls.{Answer, Given, Freed, Done, Found, NotFound, Listed, Number, No, Yes, unheld}
-use Rattle.rules.specs.Calls.{Question, ask, perform}
+use Rattle.rules.specs.Calls.{Found, NotFound, Listed, Number, No, Yes, unheld, Question, ask, perform}
 use Rattle.rules.specs.Calls.{lookup, keysInto, prototypeOf, isShared, transitionsOf, propertiesOf}
 use Rattle.rules.specs.Replies.{Answers}
 use Rattle.theorems.specs.Unheld.{goodQuestion, unheld-refused}
 use Rattle.property_table.specs.Copies.{entriesIn}
-use Rattle.property_table.specs.Lookup.{lookedUp, looked-held, looked-absent}
+use Rattle.property_table.specs.Lookup.{lookedUp, looked-held, looked-slot, looked-absent}
 use Rattle.property_table.specs.declared.Property.{Property}
 use Rattle.property_table.specs.declared.OptionalProperty.the-variants.{At, Nothing}
 
@@ -50,15 +48,15 @@ module _ {ws : List ℕ} (formed : Formed ws) (n : ℕ) (may : unheld (parse ws)
     abbrev es : List Entry
     es = entries model (shapeAt model n)
 
-    pub lookup-finds : {p : Property} → lookedUp k 0 es ≡ At p
+    pub lookup-finds : {p : Property} → lookedUp k es ≡ At p
         → let s = p .slot in
         Answers ws ws (perform model (ask n (lookup k))) (Yes (Found (s .index .0) (s .attributes .0)))
     unfolding perform
     lookup-finds looked =
-        let h = looked-held {k = k} {es = es} looked in
-        rw (good, may, h .answer, h .slot) (unchanged formed, refl)
+        let answer = looked-held {k = k} {es = es} looked .answer in
+        rw (good, may, answer, looked-slot k es looked) (unchanged formed, refl)
 
-    pub lookup-finds-nothing : lookedUp k 0 es ≡ Nothing
+    pub lookup-finds-nothing : lookedUp k es ≡ Nothing
         → Answers ws ws (perform model (ask n (lookup k))) (Yes NotFound)
     unfolding perform
     lookup-finds-nothing looked =

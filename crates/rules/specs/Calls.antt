@@ -53,11 +53,11 @@ pub data Answer : Type 0 where
 
 -- ## Their parts
 
--- "NoShape: place 0, above S, free, or without holds"
+-- NoShape: "place 0, above S, free, or without holds"
 abbrev pub unheld : Model → ℕ → Bool
 unheld m n = freeShape (shapeAt m n) || not (held (shapeAt m n))
 
--- "A call that returns a shape adds one hold to it"; "HoldsFull: the result already has 65,535 holds".
+-- "A call that returns a shape adds one hold to it"; HoldsFull: "the result already has 65,535 holds".
 abbrev pub grant : ChangeTransitionAction → Placed → Got (Model × Answer)
 grant action (m, n) = let s = shapeAt m n in do
   refuse HoldsFull (leb 65535 (s .holds))
@@ -178,7 +178,7 @@ after m (c ∷ cs) = after (call m c .0) cs
 
 -- ## Formatting
 
--- "BadSize: formatting"
+-- BadSize: "formatting"
 abbrev pub formatting : Limits → List ℕ → Got (List ℕ × Answer)
 formatting l ws = do
   refuse BadSize (not (formattable l ws))

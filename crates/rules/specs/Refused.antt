@@ -69,7 +69,7 @@ family =
     ∷ release 3 ⇒ Yes Done
     ∷ []
 
--- "BadKey: kind 3"; it is tested before 3, 4, 5 and 6.
+-- BadKey: "kind 3"; it is tested before 3, 4, 5 and 6.
 abbrev badKeys : List Line
 badKeys =
     family
@@ -87,7 +87,7 @@ badKeys =
     ∷ removeKey 5 lastKey ⇒ gives 2 1
     ∷ []
 
--- "BadAttributes: above 31"; it is tested before 4, 5 and 6.
+-- BadAttributes: "above 31"; it is tested before 4, 5 and 6.
 abbrev badAttributes : List Line
 badAttributes =
     family
@@ -101,7 +101,7 @@ badAttributes =
     ∷ changeKey 4 b 24 ⇒ gives 5 3
     ∷ []
 
--- "NoShape: place 0, above S, free, or without holds"; few has S 5.
+-- NoShape: "place 0, above S, free, or without holds"; few has S 5.
 abbrev noShapes : List Line
 noShapes =
     family
@@ -145,7 +145,7 @@ heldShape =
     ∷ release 2 ⇒ Yes Done
     ∷ []
 
--- "Present: insert of a held key", also with other attributes; a unique's too.
+-- Present: "insert of a held key", also with other attributes; a unique's too.
 abbrev presents : List Line
 presents =
     family
@@ -157,7 +157,7 @@ presents =
     ∷ insertKey 4 a 7 ⇒ No Present
     ∷ []
 
--- "Absent: change of an absent key; removal of one from a shared shape". The root's table holds a, the root
+-- Absent: "change of an absent key; removal of one from a shared shape". The root's table holds a, the root
 -- does not.
 abbrev absents : List Line
 absents =
@@ -172,7 +172,7 @@ absents =
     ∷ removeKey 2 a ⇒ gives 1 0
     ∷ []
 
--- "OutShort: list longer than the lent slice"
+-- OutShort: "list longer than the lent slice"
 abbrev outShort : List Line
 outShort =
     family
@@ -273,7 +273,7 @@ uniqueTable = (
 abbrev childless : List Line
 childless = pair ++ release 2 ⇒ Yes Done ∷ sweep ⇒ Yes (Freed 1 0) ∷ []
 
--- "EdgesFull: an edge is needed, none free after this step's prunes"
+-- EdgesFull: "an edge is needed, none free after this step's prunes"
 abbrev pruneGives : List Scene
 pruneGives =
     -- a dead edge that the step does not meet is not pruned, the one that it meets is
@@ -306,7 +306,7 @@ twoSteps =
 abbrev pub withHoldsAt : Model → (place holds : ℕ) → Model
 withHoldsAt m n h = putShape m n (withHolds (shapeAt m n) h)
 
--- "HoldsFull: the result already has 65,535 holds"; the last one is still granted, and a release makes room.
+-- HoldsFull: "the result already has 65,535 holds"; the last one is still granted, and a release makes room.
 abbrev holdsFull : Scene
 holdsFull = (
   withHoldsAt (played (limits 2 1 1 1) pair) 2 65534,

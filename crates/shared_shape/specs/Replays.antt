@@ -2,13 +2,13 @@
 -- Assumes nothing.
 use mathlib.Core.Bool.{Bool, true, false}
 use mathlib.Core.List.{List, _∷_, _++_}
-use mathlib.Core.Path.{_≡_, _∙_}
+use mathlib.Core.Path.{_≡_, sym, _∙_}
 use Prim.Native.Nat.{ℕ, _≤_, _<_}
 use native.Mathlib.Omega.{arith}
 use borrow.Author.Tests.{le-leb}
 use Rattle.slot.specs.Attributes.{mostStored, sameWidth}
 use Rattle.store.specs.Model.{Model, shapeAt}
-use Rattle.store.specs.ListLaws.{both-and, not-both}
+use Rattle.store.specs.ListLaws.{both-and}
 use Rattle.store.specs.declared.Entry.{Entry}
 use Rattle.rules.specs.Numbers.{goodKey}
 use Rattle.rules.specs.Shapes.{has, attributesIn}
@@ -21,8 +21,8 @@ use Rattle.theorems.specs.Made.{SharedAt, entriesAt, transitionsAt}
 use Rattle.theorems.specs.Rollback.{RolledBack, rolled-back}
 use Rattle.theorems.specs.Sequence.{good-label}
 use Rattle.property_table.specs.declared.Property.{Property}
-use Rattle.property_table.specs.declared.OptionalProperty.the-variants.{At, Nothing}
-use Rattle.property_table.specs.Lookup.{lookedUp, looked-held, looked-absent}
+use Rattle.property_table.specs.declared.OptionalProperty.the-variants.{At}
+use Rattle.property_table.specs.Lookup.{lookedUp, looked-attributes}
 use Rattle.plan.specs.PlanRight.{LegalSteps}
 use Rattle.plan.specs.PlanLegal.{legal-steps}
 
@@ -81,11 +81,6 @@ module _ (m : Model) (sound : Sound m) (n k : ℕ) (isShared : SharedAt m n)
 
 -- ## The key's width
 
-module _ (k a : ℕ) (es : List Entry) where
-  pub width-told : {p : Property} {r : Bool} → lookedUp k 0 es ≡ At p
-      → r ≡ sameWidth (p .slot .attributes .0) a → r ≡ sameWidth (attributesIn k es) a
-  width-told found told = told ∙ rw (looked-held {k = k} {es = es} found .attributes)
-
-  pub key-there : {r : Bool} → lookedUp k 0 es ≡ Nothing → has k es ≡ true
-      → r ≡ sameWidth (attributesIn k es) a
-  key-there none held = not-both held (looked-absent {k = k} {es = es} none .held)
+pub width-told : (k a : ℕ) (es : List Entry) {p : Property} {r : Bool} → At p ≡ lookedUp k es
+    → r ≡ sameWidth (p .slot .attributes .0) a → r ≡ sameWidth (attributesIn k es) a
+width-told k a es found told = told ∙ rw (looked-attributes k es (sym found))

@@ -2,8 +2,7 @@
 use fresh::to_unique;
 use plan::Planned;
 use plan::plan_limited;
-use property_table::OptionalProperty;
-use property_table::find;
+use property_table::find_held;
 use rollback::change_steps;
 use rollback::removal_steps;
 use rules::Placement;
@@ -173,14 +172,9 @@ fn width_stays(image: &[u32], n: u32, key: u32, attributes: SlotAttributes) -> b
         r ≡ sameWidth (attributesIn key (entriesAt (parse (now (image .entry))) n)) (attributes .0)
         ⌝ }
 {
-    match find(image, n, key) {
-        OptionalProperty::At(p) => {
-            let slot = p.slot;
-            let old = slot.attributes;
-            old.width_match(attributes)
-        }
-        OptionalProperty::Nothing => false,
-    }
+    let property = find_held(image, n, key);
+    let slot = property.slot;
+    slot.attributes.width_match(attributes)
 }
 
 pub fn change_attributes_transition(

@@ -54,6 +54,8 @@ impl SlotAttributes {
     // "A stored value is 0 to 31, any mixture." A stored word is wider than a byte.
     pub const MOST_STORED: u32 = 31;
 
+    pub const STORED_VALUES: u32 = SlotAttributes::MOST_STORED + 1;
+
     // One bit only: of a mask of several, "all of them" and "some of them" would be two answers.
     fn contains(self, bit: SlotAttributes) -> bool
         requires { ⌜ T (oneBit 8 (bit .0)) ⌝ }

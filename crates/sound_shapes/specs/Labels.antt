@@ -1,17 +1,19 @@
 -- What a key that is held decides, and what the ways out of an edge's test answer.
 -- Assumes nothing.
 use mathlib.Core.Path.{_≡_, refl, sym, _∙_}
-use mathlib.Core.Bool.{Bool, true, false, _&&_, _||_, not, and-true, and-false, or-true}
+use mathlib.Core.Bool.{Bool, true, false, _&&_, _||_, not, and-true, and-false}
 use mathlib.Core.List.{List, [], _∷_}
 use mathlib.Core.Logic.{_≢_}
-use Prim.Native.Nat.{ℕ, suc, _-_, _≤_, _<_}
+use Prim.Native.Nat.{ℕ, suc, _≤_, _<_}
 use native.Mathlib.Omega.{arith}
-use borrow.Author.Tests.{eqb-true, eqb-false, eq-eqb, ne-eqb, leb-true, le-leb, lt-leb}
+use borrow.Author.Tests.{eqb-true, eqb-false, eq-eqb, ne-eqb, leb-true, le-leb, lt-leb, not-true}
 use lib.Dec.{eqb, leb}
 use lib.ListN.{length, getD}
+use lib.Seq.{getD-take}
 use Rattle.slot.specs.If.{if_then_else_}
 use Rattle.slot.specs.Attributes.{mostStored, goodAttributes, sameWidth}
-use Rattle.store.specs.Lists.{at, lowest, keep, every}
+use Rattle.slot.specs.declared.KeyPosition.{KeyPosition}
+use Rattle.store.specs.Lists.{at, keep, every}
 use Rattle.store.specs.Model.{Model, noEntry, noEdge, shapeAt, edgeAt}
 use Rattle.store.specs.Image.{Place}
 use Rattle.store.specs.ListLaws.{and-both, both-and, or-then, not-then, every-place, every-then}
@@ -19,11 +21,13 @@ use Rattle.store.specs.declared.Shape.{Shape}
 use Rattle.store.specs.declared.Entry.{Entry}
 use Rattle.store.specs.declared.Edge.{Edge}
 use Rattle.rules.specs.Numbers.{goodKey}
-use Rattle.rules.specs.Shapes.{isKey, has, shared, isChild, tableOf, entries}
+use Rattle.rules.specs.Shapes.{has, shared, isChild, tableOf, entries}
 use Rattle.rules.specs.Steps.{Step, insert, configure, prototype, edgeKind, mayStep}
-use Rattle.rules.specs.Sound.{inRange, stepOf, leads, childrenStepped, goodLabel, goodChild}
-use Rattle.rules.specs.InUse.{EdgeRanges, each-shape, edge-ranges, shared-used, tabled}
-use Rattle.sound_shapes.specs.Keys.{good-entries, key-absent, key-held, held-read}
+use Rattle.rules.specs.Sound.{inRange, tablesGood, stepOf, leads, childrenStepped, goodLabel, goodChild}
+use Rattle.rules.specs.InUse.{EdgeRanges, each-shape, edge-ranges, shared-used, Tabled, tabled}
+use Rattle.key_position.specs.Positions.{positionOf, Stands, stands-at, stands-nowhere}
+use Rattle.key_position.specs.declared.OptionalPosition.the-variants.{At, Nothing}
+use Rattle.sound_shapes.specs.Keys.{good-entries, tabled-long}
 use Rattle.sound_shapes.specs.Tests.{widthFits, LiveFits, edgeKindOf, leadsTo, Keyed}
 use Rattle.sound_shapes.specs.Tests.{goodEdge, TablesKnown}
 
@@ -36,18 +40,31 @@ module _ (m : Model) (s : Shape) (known : Keyed m s) where
       let its = every-place noEntry test (tableOf m s) refl (known .good) (suc k) in
       leb-true (e .attributes) mostStored (rw q its)
 
-  module _ (k a : ℕ) {place : ℕ} (sought : place ≡ lowest (isKey k) 1 (entries m s)) where
-    pub absent-fits : place ≡ 0 → true ≡ widthFits k a (entries m s)
-    absent-fits e = rw (key-absent k (entries m s) sought e)
+  module _ (k : ℕ) {p : KeyPosition} (there : positionOf k (entries m s) ≡ At p) where
+    key-stands : Stands k (entries m s) (p .0)
+    key-stands = stands-at k (entries m s) there
 
-    pub held-answer : {e : Entry} {r : Bool} → (place ≡ 0 → ⊥) → e ≡ getD (tableOf m s) (place - 1) noEntry
-        → r ≡ sameWidth (e .attributes) a → r ≡ widthFits k a (entries m s)
-    held-answer some read answer =
-        let h = key-held k (entries m s) sought some in
-        let its = held-read (known .tabled) k sought some read in
-        rw (h .held, ← (h .attributes), ← its) answer
+    pub held-inside : p .0 < s .properties
+    held-inside = rw (← (tabled-long (known .tabled))) (key-stands .inside)
+
+    pub held-answer : (absent : Bool) (a : ℕ) {e : Entry} {r : Bool} → e ≡ getD (tableOf m s) (p .0) noEntry
+        → r ≡ sameWidth (e .attributes) a → r ≡ widthFits absent k a (entries m s)
+    held-answer absent a read answer =
+        let its = getD-take (s .properties) (tableOf m s) (p .0) noEntry held-inside in
+        rw (key-stands .held, key-stands .attributes, its, ← read) answer
+
+pub absent-answer : (k a : ℕ) (es : List Entry) (absent : Bool) → positionOf k es ≡ Nothing
+    → absent ≡ widthFits absent k a es
+absent-answer k a es absent nowhere = rw (stands-nowhere k es nowhere .held)
 
 -- ## What a parent has
+
+pub keyed : {m : Model} {s : Shape} → tablesGood m ≡ true → Tabled m s → Keyed m s
+keyed {m} {s} good its =
+    record {
+      tabled = its;
+      good = every-then (λ x p. and-both (goodKey (x .key)) p .1) (tableOf m s) (good-entries m good s .1);
+    }
 
 module _
     (m : Model)
@@ -57,16 +74,8 @@ module _
     (read : s ≡ shapeAt m n)
     (state : s .state ≡ 1)
   where
-    good-table : every (λ e. goodAttributes (e .attributes)) (tableOf m s) ≡ true
-    good-table =
-        every-then (λ x p. and-both (goodKey (x .key)) p .1) (tableOf m s) (good-entries m (known .good) s .1)
-
     pub parent-keyed : Keyed m s
-    parent-keyed =
-        record {
-          tabled = tabled m (known .inUse) (known .counts) n read (rw state refl);
-          good = good-table;
-        }
+    parent-keyed = keyed (known .good) (tabled m (known .inUse) (known .counts) n read (rw state refl))
 
 -- ## What a step has tested
 
@@ -88,7 +97,7 @@ module _ (test kept : Edge → Bool) where
       not-then (kept e) (rw read (every-place noEdge (λ e. not (kept e) || test e) es (rw out) each n)) its
 
 step-fits : (kind : ℕ) (e : Edge) (es : List Entry) → edgeKind (stepOf kind e) ≡ 0
-    → mayStep (stepOf kind e) es ≡ true → widthFits (e .label) (e .attributes) es ≡ true
+    → mayStep (stepOf kind e) es ≡ true → widthFits true (e .label) (e .attributes) es ≡ true
 step-fits kind e es = go (eqb kind 0) (eqb kind 1)
   where
     stepIf : Bool → Bool → Step
@@ -98,9 +107,9 @@ step-fits kind e es = go (eqb kind 0) (eqb kind 1)
         else prototype (e .label)
 
     go : (b c : Bool) → edgeKind (stepIf b c) ≡ 0 → mayStep (stepIf b c) es ≡ true
-        → widthFits (e .label) (e .attributes) es ≡ true
-    go true c k may = rw may
-    go false true k may = rw (and-both (has (e .label) es) may .1, or-true)
+        → widthFits true (e .label) (e .attributes) es ≡ true
+    go true c k may = rw (not-true (has (e .label) es) may)
+    go false true k may = let (held, wide) = and-both (has (e .label) es) may in rw (held, wide)
     go false false k may = absurd (omega (arith, k))
 
 -- ## Ways out
@@ -144,14 +153,15 @@ module _ (es : List Entry) (e : Edge) where
         never false b = refl
 
     pub label-answer : e .attributes ≤ mostStored → {good fits : Bool} → good ≡ goodKey (e .label)
-        → fits ≡ widthFits (e .label) (e .attributes) es
+        → fits ≡ widthFits true (e .label) (e .attributes) es
         → (good && fits) ≡ goodLabel es e
     label-answer q good fits =
-        rw (property, le-leb (e .attributes) mostStored q, good, fits) (sym (skip (goodKey (e .label)) _))
+        let key = goodKey (e .label) in
+        rw (property, le-leb (e .attributes) mostStored q, good, fits, and-true) (same key (has (e .label) es) _)
       where
-        skip : (a b : Bool) → (a && true && b) ≡ (a && b)
-        skip true b = refl
-        skip false b = refl
+        same : (a b c : Bool) → (a && (if b then c else true)) ≡ (a && (not b || c))
+        same a true c = refl
+        same a false c = refl
 
     pub live-answer : e .attributes ≤ mostStored → {good : Bool} → good ≡ goodKey (e .label) → e .child ≢ 0
         → LiveFits es e → good ≡ goodLabel es e

@@ -5,7 +5,6 @@ use mathlib.Core.Bool.{Bool, true, false, _&&_, _||_, not}
 use mathlib.Core.List.{List, [], _∷_, map}
 use mathlib.Core.Logic.{_≢_}
 use Prim.Native.Nat.{ℕ, _+_}
-use native.Mathlib.Numerals.{add-one}
 use lib.Dec.{eqb, ltb, leb}
 use lib.ListN.{length}
 use Rattle.slot.specs.If.{if_then_else_}
@@ -77,13 +76,13 @@ shapeTests m =
 abbrev pub goodShape : Model → Shape → Bool
 goodShape m s = freeShape s || all (map (λ test. test s) (shapeTests m))
 
--- The attributes are of equal width where the key is held.
-abbrev pub widthFits : (key attributes : ℕ) → List Entry → Bool
-widthFits k a es = not (has k es) || sameWidth (attributesIn k es) a
+-- The attributes are of equal width where the key is held; what holds of an absent one, its user says.
+abbrev pub widthFits : (absent : Bool) → (key attributes : ℕ) → List Entry → Bool
+widthFits absent k a es = if has k es then sameWidth (attributesIn k es) a else absent
 
 -- The same of a property edge that has a child.
 abbrev pub LiveFits : List Entry → Edge → Type 0
-LiveFits es e = e .child ≢ 0 → e .kind ≡ propertyEdgeKind → widthFits (e .label) (e .attributes) es ≡ true
+LiveFits es e = e .child ≢ 0 → e .kind ≡ propertyEdgeKind → widthFits true (e .label) (e .attributes) es ≡ true
 
 -- The kind of the edges that a step kind has.
 abbrev pub edgeKindOf : (step : ℕ) → ℕ

@@ -1,7 +1,6 @@
 // What soundness asks of an edge's parent, of its key or prototype, and of its child.
-use crate::keys::place_of_key;
+use crate::widths::width_fits;
 use rules::good_key;
-use slot::KeyPosition;
 use slot::SlotAttributes;
 use store::Edge;
 use store::EdgeKind;
@@ -9,34 +8,17 @@ use store::Shape;
 use store::ShapeState;
 use store::StepKind;
 use store::image::get_edge;
-use store::image::get_entry;
 use store::image::get_shape;
 ghost use mathlib.Core.Path.{_≡_};
 ghost use Prim.Native.Nat.{_≤_};
 ghost use lib.ListN.{length};
-ghost use Rattle.slot.specs.Attributes.{mostStored};
 ghost use Rattle.store.specs.Model.{shapeAt, edgeAt};
 ghost use Rattle.store.specs.Layout.{parse};
 ghost use Rattle.store.specs.Image.{Formed, Place};
 ghost use Rattle.rules.specs.Shapes.{entries};
 ghost use Rattle.rules.specs.Sound.{goodLabel, goodChild};
-ghost use Rattle.sound_shapes.specs.Tests.{StepsKnown, Keyed, widthFits, LiveFits, edgeKindOf};
-ghost use Rattle.sound_shapes.specs.Tests.{leadsTo, goodEdge};
-
-// The attributes are of equal width where the shape holds the key.
-fn width_fits(image: &[u32], s: Shape, key: u32, attributes: u32) -> bool
-    requires { ⌜ Formed (now image) ⌝ }
-    requires { ⌜ Keyed (parse (now image)) s ⌝ }
-    requires { ⌜ attributes ≤ mostStored ⌝ }
-    ensures { λ r. ⌜ r ≡ widthFits key attributes (entries (parse (now (image .entry))) s) ⌝ }
-{
-    let place = place_of_key(image, s, key);
-    if place == 0 {
-        return true;
-    }
-    let held = get_entry(image, s.table, KeyPosition(place - 1));
-    SlotAttributes(held.attributes as u8).width_match(SlotAttributes(attributes as u8))
-}
+ghost use Rattle.sound_shapes.specs.Tests.{StepsKnown, Keyed, LiveFits, edgeKindOf, leadsTo};
+ghost use Rattle.sound_shapes.specs.Tests.{goodEdge};
 
 // "a property edge's key is good, its attributes up to 31 and of equal width where the parent
 // holds that key; a prototype edge has any prototype and attributes 0". The step to a child has
@@ -57,7 +39,8 @@ fn label_is_good(image: &[u32], parent: Shape, e: Edge) -> bool
     if e.child != 0 {
         return good;
     }
-    good & width_fits(image, parent, e.label, e.attributes)
+    let attributes = SlotAttributes(e.attributes as u8);
+    good & width_fits(image, parent, e.label, attributes, true)
 }
 
 fn edge_kind(step: u32) -> u32

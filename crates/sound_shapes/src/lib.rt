@@ -22,9 +22,9 @@ ghost use Rattle.sound_shapes.specs.Tests.{StepsKnown, asked, Granted, p
 
 mod codes;
 mod edges;
-pub mod keys;
 mod labels;
 mod shapes;
+pub mod widths;
 mod zeros;
 
 pub use codes::edges_differ;

@@ -5,7 +5,7 @@ use mathlib.Core.Bool.{Bool, true, false, _&&_, not, and-true, and-false, and-as
 use mathlib.Core.Bool.{false≢true}
 use mathlib.Core.List.{List, [], _∷_, _++_, map}
 use mathlib.Core.Logic.{_⊎_, inl, inr, _≢_}
-use Prim.Native.Nat.{ℕ, zero, suc, _+_, _-_, _≤_, _<_}
+use Prim.Native.Nat.{ℕ, zero, suc, _+_, _/_, _%_, _≤_, _<_}
 use native.Mathlib.Nat.{not-suc-le-zero, le-of-suc-le-suc}
 use native.Mathlib.Omega.{arith}
 use borrow.Author.Tests.{eqb-true, ne-eqb, not-true}
@@ -13,8 +13,8 @@ use lib.Dec.{eqb}
 use lib.ListN.{length, getD, take, length-map, length-append}
 use lib.Seq.{take-take, getD-take, length-take-le}
 use Rattle.slot.specs.If.{if_then_else_}
-use Rattle.slot.specs.Attributes.{width}
-use Rattle.store.specs.Lists.{at, lowest, every, any, agree}
+use Rattle.slot.specs.Attributes.{present, accessor, width}
+use Rattle.store.specs.Lists.{every, any, agree}
 use Rattle.store.specs.ListLaws.{and-both, not-both, agree-self, eqb-sym}
 use Rattle.store.specs.Model.{Model, noEntry}
 use Rattle.store.specs.PlaceLaws.{same?}
@@ -27,8 +27,8 @@ use Rattle.rules.specs.Shapes.{tableOf, entries}
 use Rattle.rules.specs.Steps.{configure, prototype, mayStep, stepEntries, stepPrototype}
 use Rattle.rules.specs.Sound.{tablesGood, stepOf, leads}
 use Rattle.rules.specs.InUse.{Tabled}
-use Rattle.sound_shapes.specs.Keys.{keysDiffer, good-entries, tabled-long, key-absent, key-held}
-use Rattle.sound_steps.specs.Links.{none, one}
+use Rattle.sound_shapes.specs.Keys.{keysDiffer, good-entries, tabled-long}
+use Rattle.sound_shapes.specs.Tests.{widthFits}
 
 -- ## Entry by entry
 
@@ -103,16 +103,22 @@ same-prototype zero edge p l = refl
 same-prototype (suc zero) edge p l = refl
 same-prototype (suc (suc kind)) edge p l = absurd (omega arith)
 
-module _ (edge : Edge) (es : List Entry) {place : ℕ} (its : place ≡ lowest (isKey (edge .label)) 1 es) where
-  pub may-not-configure : place ≡ 0 → false ≡ mayStep (configure (edge .label) (edge .attributes)) es
-  may-not-configure out = rw (key-absent (edge .label) es its out)
+-- GET and SET are names of a stored value.
+low-width : (a : ℕ) → width (a % 32) ≡ width a
+unfolding width accessor present
+low-width a =
+    let get : a % 32 / 8 % 2 ≡ a / 8 % 2 = omega arith in
+    let set : a % 32 / 16 % 2 ≡ a / 16 % 2 = omega arith in
+    rw (get, set)
 
-  pub may-configure : {x : Entry} {wide other : ℕ} → place ≢ 0 → x ≡ getD es (place - 1) noEntry
-      → wide ≡ width (x .attributes) → other ≡ width (edge .attributes)
-      → eqb wide other ≡ mayStep (configure (edge .label) (edge .attributes)) es
-  may-configure ne is w v =
-      let h = key-held (edge .label) es its ne in
-      rw (w, v, h .held, ← (h .attributes), is)
+pub may-configure : (edge : Edge) (es : List Entry) {r : Bool}
+    → r ≡ widthFits false (edge .label) (edge .attributes % 32) es
+    → r ≡ mayStep (configure (edge .label) (edge .attributes)) es
+may-configure edge es answer = rw (low-width (edge .attributes)) at answer ∙ if-both (has (edge .label) es) _
+  where
+    if-both : (b c : Bool) → (if b then c else false) ≡ (b && c)
+    if-both true c = refl
+    if-both false c = refl
 
 -- The last of the first k keys is one of all,
 last-stands : (k : ℕ) (fs es : List Entry) (x : Entry)

@@ -1,6 +1,7 @@
 // Whether a child's keys, attributes and prototype are its previous's with its edge's step applied.
 use slot::KeyPosition;
-use sound_shapes::keys::place_of_key;
+use slot::SlotAttributes;
+use sound_shapes::widths::width_fits;
 use store::Edge;
 use store::Entry;
 use store::Shape;
@@ -9,40 +10,27 @@ use store::image::get_entry;
 ghost use mathlib.Core.Path.{_≡_};
 ghost use mathlib.Core.Bool.{true};
 ghost use Prim.Native.Nat.{_≤_};
-ghost use Rattle.slot.specs.Attributes.{width};
 ghost use Rattle.store.specs.Layout.{parse};
 ghost use Rattle.store.specs.Image.{Formed};
 ghost use Rattle.rules.specs.Shapes.{entries};
 ghost use Rattle.rules.specs.Steps.{configure, mayStep, stepPrototype};
 ghost use Rattle.rules.specs.Sound.{tablesGood, stepOf, leads};
 ghost use Rattle.rules.specs.InUse.{Tabled};
+ghost use Rattle.sound_shapes.specs.Tests.{Keyed};
 ghost use Rattle.sound_steps.specs.StepLaws.{samePair, changed, firstFollow, entriesFollow};
 
-// An edge's attributes are not tested before its step, so that they may not fit the attribute byte.
-fn width(attributes: u32) -> u32
-    ensures { λ r. ⌜ r ≡ width attributes ⌝ }
-{
-    if (attributes / 8 % 2 == 1) | (attributes / 16 % 2 == 1) {
-        2
-    } else {
-        1
-    }
-}
-
+// An edge's attributes are tested after its step, so that here they may not fit the attribute byte. The names that
+// make a width are among those of a stored value.
 fn may_configure(image: &[u32], p: Shape, edge: Edge) -> bool
     requires { ⌜ Formed (now image) ⌝ }
-    requires { ⌜ Tabled (parse (now image)) p ⌝ }
+    requires { ⌜ Keyed (parse (now image)) p ⌝ }
     ensures { λ r. ⌜
         r ≡ mayStep (configure (edge .label) (edge .attributes))
         (entries (parse (now (image .entry))) p)
         ⌝ }
 {
-    let place = place_of_key(image, p, edge.label);
-    if place == 0 {
-        return false;
-    }
-    let held = get_entry(image, p.table, KeyPosition(place - 1));
-    width(held.attributes) == width(edge.attributes)
+    let attributes = SlotAttributes((edge.attributes % SlotAttributes::STORED_VALUES) as u8);
+    width_fits(image, p, edge.label, attributes, false)
 }
 
 fn is_same(a: Entry, b: Entry) -> bool
@@ -79,14 +67,14 @@ fn same_first(image: &[u32], p: Shape, s: Shape, edge: Edge, configures: bool) -
         return true;
     }
     let count = p.properties;
-    let mut done = 0;
-    while done < count {
-        let old = get_entry(image, p.table, KeyPosition(done));
-        let new = get_entry(image, s.table, KeyPosition(done));
+    let mut position = KeyPosition(0);
+    while position.0 < count {
+        let old = get_entry(image, p.table, position);
+        let new = get_entry(image, s.table, position);
         if !is_same(new, entry_after(configures, edge, old)) {
             return false;
         }
-        done += 1;
+        position.0 += 1;
     }
     true
 }

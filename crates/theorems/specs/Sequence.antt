@@ -155,7 +155,7 @@ module _ (m : Model) (sound : Sound m) (n k : ℕ) (isShared : SharedAt m n)
       steps-led (b .newest ++ b .yielded) m sound (b .base) (rolled .found .baseShared)
       (rolled .removal .legal) (omega (arith, rolled .shorter, most)) y e
 
-  -- "Change of width: base, prototype, the key with new attributes, then the yielded keys."
+  -- "Change of width: base, prototype, the key with new attributes, then the yielded keys".
   pub change-led : (a : ℕ) → goodAttributes a ≡ true → sameWidth (attributesIn k (entriesAt m n)) a ≡ false
       → (y : Placed) → changeShared m n k a ≡ ok y
       → let b = rollback m n k in Led m (b .base) (b .newest ++ insert k a ∷ b .yielded) y
@@ -165,7 +165,7 @@ module _ (m : Model) (sound : Sound m) (n k : ℕ) (isShared : SharedAt m n)
       steps-led (b .newest ++ insert k a ∷ b .yielded) m sound (b .base) (rolled .found .baseShared)
       (rolled .change a low .legal) (omega (arith, rolled .noLonger a, most)) y (rw wide at e)
 
-  -- "Change at equal width: one configure step."
+  -- "Change at equal width: one configure step".
   pub configure-led : (a : ℕ) → goodKey k ≡ true → goodAttributes a ≡ true → transitionsAt m n < 1024
       → sameWidth (attributesIn k (entriesAt m n)) a ≡ true
       → (y : Placed) → changeShared m n k a ≡ ok y → Led m n (configure k a ∷ []) y

@@ -1,4 +1,4 @@
--- "NoShape: place 0, above S, free, or without holds": every call that names such a shape is refused.
+-- NoShape: "place 0, above S, free, or without holds": every call that names such a shape is refused.
 -- Assumes nothing.
 use mathlib.Core.Bool.{Bool, true, _&&_}
 use mathlib.Core.Option.{Option, none, some}

@@ -8,7 +8,6 @@ use Prim.Native.Nat.{ℕ, _+_}
 use borrow.Author.Tests.{eq-eqb, ne-eqb}
 use Rattle.slot.specs.Attributes.{sameWidth}
 use Rattle.store.specs.Model.{Model, used, shapeAt, putShape, putTable}
-use Rattle.store.specs.ListLaws.{not-both}
 use Rattle.store.specs.Layout.{parse}
 use Rattle.store.specs.Image.{Formed, Becomes, unchanged, and-then}
 use Rattle.store.specs.declared.Shape.{Shape}
@@ -16,14 +15,14 @@ use Rattle.store.specs.declared.Entry.{Entry}
 use Rattle.rules.specs.declared.Refusal.the-variants.{KeysFull}
 use Rattle.rules.specs.declared.Placement.{Placement}
 use Rattle.rules.specs.declared.Placement.the-variants as placement
-use Rattle.rules.specs.Shapes.{has, attributesIn, appended, configured, entries, withProperties}
+use Rattle.rules.specs.Shapes.{attributesIn, appended, configured, entries, withProperties}
 use Rattle.rules.specs.Unique.{emptied, replaced, insertUnique, removeUnique, changeUnique, prototypeUnique}
 use Rattle.rules.specs.Placing.{Places}
-use Rattle.property_table.specs.Lookup.{lookedUp, looked-held, looked-absent, Held}
+use Rattle.key_position.specs.Positions.{Stands}
+use Rattle.property_table.specs.Lookup.{lookedUp, looked-held, looked-attributes, looked-absent}
 use Rattle.property_table.specs.Copies.{entriesIn}
 use Rattle.property_table.specs.OneKey.{keyAt}
 use Rattle.property_table.specs.declared.Property.{Property}
-use Rattle.property_table.specs.declared.OptionalProperty.{OptionalProperty}
 use Rattle.property_table.specs.declared.OptionalProperty.the-variants.{At, Nothing}
 use Rattle.unique_shape.specs.OwnTable.{OwnTable}
 use Rattle.unique_shape.specs.Replacing.{keysCopied}
@@ -55,21 +54,15 @@ module _ (before : List ℕ) (n : ℕ) where
 
   -- ## Removal and change, by what a lookup has answered
 
-  module _ (k : ℕ) {r : OptionalProperty} (answer : r ≡ lookedUp k 0 es) where
-    absent : r ≡ Nothing → has k es ≡ false
-    absent none = looked-absent {k = k} {es = es} (sym answer ∙ none) .held
-
-    pub remove-absent : Formed before → r ≡ Nothing
+  module _ (k : ℕ) where
+    pub remove-absent : Formed before → lookedUp k es ≡ Nothing
         → Places before before (removeUnique m n k) (placement.At n)
     unfolding removeUnique
-    remove-absent formed none = rw (absent none) (unchanged formed, refl)
+    remove-absent formed none = rw (looked-absent {k = k} {es = es} none .held) (unchanged formed, refl)
 
-    pub change-absent : {A : Type 0} → has k es ≡ true → r ≡ Nothing → A
-    change-absent held none = not-both held (absent none)
-
-    module _ {p : Property} (found : r ≡ At p) where
-      pub its-entry : Held k es (p .position .0) (p .slot)
-      its-entry = looked-held (sym answer ∙ found)
+    module _ {p : Property} (found : lookedUp k es ≡ At p) where
+      pub its-entry : Stands k es (p .position .0)
+      its-entry = looked-held found
 
       pub remove-held : (after : List ℕ) (x : Placement) {s : Shape} → s ≡ shapeAt m n
           → Places before after
@@ -80,7 +73,7 @@ module _ (before : List ℕ) (n : ℕ) where
 
       module _ (a : ℕ) {same : Bool} (compared : same ≡ sameWidth (p .slot .attributes .0) a) where
         width : {b : Bool} → same ≡ b → sameWidth (attributesIn k es) a ≡ b
-        width e = rw (its-entry .attributes) (sym compared ∙ e)
+        width e = rw (looked-attributes k es found) (sym compared ∙ e)
 
         pub change-same : {after : List ℕ} {s : Shape} → s ≡ shapeAt m n → OwnTable m s → same ≡ true
             → Becomes before after

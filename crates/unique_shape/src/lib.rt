@@ -10,6 +10,7 @@ use property_table::copy_changed;
 use property_table::copy_entries;
 use property_table::copy_without;
 use property_table::find;
+use property_table::find_held;
 use property_table::set_attributes_at_index;
 use rules::Placement;
 use rules::Refusal;
@@ -179,11 +180,7 @@ pub fn change_attributes_transition(
         ⌝ }
 {
     let s = get_shape(image, n);
-    let found = find(image, n, key);
-    let OptionalProperty::At(property) = found else {
-        // Not reached: the key is held.
-        return Placement::Refused(Refusal::Absent);
-    };
+    let property = find_held(image, n, key);
     let position = property.position;
     let slot = property.slot;
     if slot.attributes.width_match(attributes) {

@@ -28,8 +28,8 @@ append-requires c κs =
     let count = counted .entry-count .ensures in
     (first .formed, key-ready (pre .0) (pre .1 .0) count (pre .1 .1 .1 .0) first)
 
-add-next : tie.Need-add-next
-add-next c = search needs
+add-t18 : tie.Need-add-t18
+add-t18 c = search needs
 
 append-entries-requires : tie.Need-append-entries-requires
 append-entries-requires c κs =
@@ -72,7 +72,7 @@ copy-changed-spec =
     get-entry-requires
     copy-entries-requires
     append-requires
-    add-next
+    add-t18
     append-entries-requires
     same-length
     returns)

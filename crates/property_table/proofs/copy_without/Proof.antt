@@ -14,8 +14,8 @@ copy-entries-requires c κs =
     let pre = c .before .before .before .before .pre in
     (pre .0, (pre .1 .0, (pre .1 .1 .0, omega (arith, pre .1 .1 .1 .0))))
 
-add-append-entries : tie.Need-add-append-entries
-add-append-entries c = search needs
+add-t13 : tie.Need-add-t13
+add-t13 c = search needs
 
 append-entries-requires : tie.Need-append-entries-requires
 append-entries-requires c κs =
@@ -49,7 +49,7 @@ copy-without-spec =
     (tie.spec
     entry-count-requires
     copy-entries-requires
-    add-append-entries
+    add-t13
     append-entries-requires
     same-length
     returns)

@@ -10,11 +10,11 @@ use Rattle.property_table.proofs.count_kind.Statement.{statement}
 use Rattle.property_table.proofs.count_kind.Tie as tie
 
 abbrev Inv-loop : tie.InvT-loop
-Inv-loop image table count kind n₀ i₀ n i =
-    (i ≤ count) × (n ≡ length (listed kind (take i (entriesIn image table))))
+Inv-loop image table count kind n₀ position₀ n position =
+    (position .0 ≤ count) × (n ≡ length (listed kind (take (position .0) (entriesIn image table))))
 
 abbrev μ-loop : tie.MeasureT-loop
-μ-loop image table count kind n₀ i₀ n i = count - i
+μ-loop image table count kind n₀ position₀ n position = count - position .0
 
 loop-holds : tie.Need-loop-holds Inv-loop μ-loop
 loop-holds c = (omega arith, refl)
@@ -27,43 +27,50 @@ of-kind-requires c κs = search needs
 
 add-n : tie.Need-add-n Inv-loop μ-loop
 add-n c =
-    let start = c .before .before .before .before .before in
-    let args = start .args in
-    let loop = c .before .before .before .loop in
+    let args = c .before .before .before .before .before .before .args in
+    let pre = c .before .before .before .before .before .before .pre in
+    let loop = c .before .before .before .before .loop in
+    let get-entry = c .before .get-entry in
+    let of-kind = c .of-kind in
+    let es = entriesIn (args .image .now) (args .table) in
     let sum = loop .inv .1 in
-    let below = listed-below (args .kind) (entriesIn (args .image .now) (args .table)) (loop .i) in
-    let few = entries-few (start .pre .0) (args .table) in
-    let one = c .of-kind .ensures in
-    let most = one-at-most (args .kind) (c .before .get-entry .result .key) in
+    let below = listed-below (args .kind) es (loop .position .0) in
+    let few = entries-few (pre .0) (args .table) in
+    let one = of-kind .ensures in
+    let most = one-at-most (args .kind) (get-entry .result .key) in
     search needs
 
-add-i : tie.Need-add-i Inv-loop μ-loop
-add-i c = search needs
+add-position : tie.Need-add-position Inv-loop μ-loop
+add-position c = search needs
 
 loop-less : tie.Need-loop-less Inv-loop μ-loop
 loop-less c = search needs
 
 loop-again : tie.Need-loop-again Inv-loop μ-loop
 loop-again c =
-    let pre = c .before .before .before .before .before .pre in
-    let loop-test = c .before .before .loop-test in
-    let args = c .before .before .before .before .before .args in
-    let loop = c .before .before .before .loop in
-    let get-entry = c .before .get-entry in
-    let of-kind = c .of-kind in
+    let args = c .before .before .before .before .before .before .before .args in
+    let pre = c .before .before .before .before .before .before .before .pre in
+    let loop = c .before .before .before .before .before .loop in
+    let if1 = c .before .before .before .if1 in
+    let get-entry = c .before .before .get-entry in
+    let of-kind = c .before .of-kind in
+    let es = entriesIn (args .image .now) (args .table) in
     let inside = pre .1 .1 in
-    let test = loop-test .taken in (
+    let test = if1 .taken in (
       omega arith,
-      counted-more (args .kind) (loop .i) (entriesIn (args .image .now) (args .table))
+      counted-more (args .kind) (loop .position .0) es
           (omega arith) (loop .inv .1) (get-entry .ensures) (of-kind .ensures),
     )
 
 returns : tie.Need-returns Inv-loop μ-loop
 returns c =
-    let within = c .before .loop .inv .0 in
-    let test = c .loop-test .left in
-    let all : c .before .before .before .args .count ≡ c .before .loop .i = omega arith in
-    rw all (c .before .loop .inv .1)
+    let args = c .before .before .before .before .args in
+    let loop = c .before .before .loop in
+    let if1 = c .if1 in
+    let within = loop .inv .0 in
+    let test = if1 .left in
+    let all : args .count ≡ loop .position .0 = omega arith in
+    rw all (loop .inv .1)
 
 pub count-kind-spec : {M : Type 1} → statement M
 count-kind-spec =
@@ -75,7 +82,7 @@ count-kind-spec =
     get-entry-requires
     of-kind-requires
     add-n
-    add-i
+    add-position
     loop-less
     loop-again
     returns)

@@ -1,5 +1,6 @@
 -- `property_table::set_attributes_at_index` meets its contract. Assumes nothing.
 use borrow.Author.Needs.{needs}
+use native.Mathlib.Omega.{arith}
 use Rattle.property_table.specs.Copies.{entriesIn}
 use Rattle.property_table.specs.OneKey.{set-configured}
 use Rattle.property_table.proofs.set_attributes_at_index.Statement.{statement}
@@ -16,7 +17,7 @@ cast-t12 c = search needs
 set-entry-requires : tie.Need-set-entry-requires
 set-entry-requires c κs =
     let pre = c .before .before .before .before .before .before .pre in
-    (pre .0, (pre .1 .0, pre .1 .1 .0))
+    (pre .0, (pre .1 .0, omega (arith, pre .1 .1 .0)))
 
 same-length : tie.Need-same-length
 same-length c = c .before .before .set-entry .ensures .long

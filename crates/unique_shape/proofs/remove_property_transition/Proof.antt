@@ -1,5 +1,6 @@
 -- `unique_shape::remove_property_transition` meets its contract. Assumes nothing.
 use Rattle.theorems.specs.Uniques.{is-used}
+use mathlib.Core.Path.{sym, _∙_}
 use borrow.Author.Needs.{needs}
 use Rattle.unique_shape.specs.OwnTable.{shape-place}
 use Rattle.unique_shape.specs.Rules.{its-entry, remove-absent, remove-held}
@@ -33,8 +34,7 @@ replace-requires c κs =
         pre .1 .0,
         (
           pre .1 .1,
-          its-entry _ _ _ (after-find .find .ensures)
-              (after-found .found .given .1) .inside,
+          its-entry _ _ _ (sym (after-find .find .ensures) ∙ after-found .found .given .1) .inside,
         ),
       ),
     )
@@ -46,7 +46,7 @@ returns : tie.Need-returns
 returns c =
     let after-find = c .before .before in
     let start = after-find .before .before .before .before .before in
-    remove-absent _ _ _ (after-find .find .ensures) (start .pre .0) (c .enum-told .given .1)
+    remove-absent _ _ _ (start .pre .0) (sym (after-find .find .ensures) ∙ c .enum-told .given .1)
 
 same-length-2 : tie.Need-same-length-2
 same-length-2 c = search needs
@@ -57,7 +57,7 @@ returns-2 c =
     let after-found = after-replace .before .before .before .before in
     let after-find = after-found .before .before in
     let after-get-shape = after-find .before .before in
-    remove-held _ _ _ (after-find .find .ensures) (after-found .found .given .1) _ _
+    remove-held _ _ _ (sym (after-find .find .ensures) ∙ after-found .found .given .1) _ _
     (after-get-shape .get-shape .ensures) (after-replace .replace .ensures)
 
 pub remove-property-transition-spec : {M : Type 1} → statement M

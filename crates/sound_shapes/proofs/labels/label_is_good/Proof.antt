@@ -2,6 +2,7 @@
 use Rattle.rules.specs.Shapes.{entries}
 use Rattle.sound_shapes.specs.Labels.{prototype-label, bad-attributes, label-answer, live-answer}
 use borrow.Author.Needs.{needs}
+use native.Mathlib.Omega.{arith}
 use denote.Ref.{now}
 use Rattle.store.specs.Layout.{parse}
 use Rattle.sound_shapes.proofs.labels.label_is_good.Statement.{statement}
@@ -34,18 +35,20 @@ returns-3 c =
     live-answer (entries (parse (now (args .image))) (args .parent)) (args .e) (if1 .left) (if2 .left)
     (good-key .ensures) (if3 .taken) (pre .1 .1)
 
+cast-t7 : tie.Need-cast-t7
+cast-t7 c = omega (arith, c .before .before .before .before .if2 .left)
+
 width-fits-requires : tie.Need-width-fits-requires
 width-fits-requires c κs =
-    let pre = c .before .before .before .before .before .before .before .before .pre in
-    let if2 = c .before .before .before .if2 in
-    (pre .0, (pre .1 .0, if2 .left))
+    let pre = c .before .before .before .before .before .before .before .before .before .pre in
+    (pre .0, pre .1 .0)
 
 returns-4 : tie.Need-returns-4
 returns-4 c =
-    let args = c .before .before .before .before .before .before .before .before .before .args in
-    let if1 = c .before .before .before .before .before .before .if1 in
-    let if2 = c .before .before .before .before .if2 in
-    let good-key = c .before .before .before .good-key in
+    let args = c .before .before .before .before .before .before .before .before .before .before .args in
+    let if1 = c .before .before .before .before .before .before .before .if1 in
+    let if2 = c .before .before .before .before .before .if2 in
+    let good-key = c .before .before .before .before .good-key in
     let width-fits = c .width-fits in
     label-answer (entries (parse (now (args .image))) (args .parent)) (args .e) (if1 .left) (if2 .left)
     (good-key .ensures) (width-fits .ensures)
@@ -58,5 +61,6 @@ label-is-good-spec =
     returns-2
     good-key-requires
     returns-3
+    cast-t7
     width-fits-requires
     returns-4)

@@ -1,4 +1,5 @@
 -- `sound_steps::steps::leads` meets its contract. Assumes nothing.
+use Rattle.sound_shapes.specs.Labels.{keyed}
 use Rattle.sound_steps.specs.StepLaws.{configure-leads, others-lead}
 use denote.Ref.{now}
 use Rattle.store.specs.Layout.{parse}
@@ -15,7 +16,7 @@ prototype-after-requires c κs = search needs
 may-configure-requires : tie.Need-may-configure-requires
 may-configure-requires c κs =
     let pre = c .before .before .before .before .before .before .pre in
-    (pre .0, pre .1 .1 .0)
+    (pre .0, keyed (pre .1 .0) (pre .1 .1 .0))
 
 returns : tie.Need-returns
 returns c =
