@@ -3,14 +3,14 @@
 use mathlib.Core.Bool.{Bool, true, not, Bool·not-not}
 use mathlib.Core.List.{List}
 use mathlib.Core.Path.{_≡_, refl, sym, _∙_, ap}
-use Prim.Native.Nat.{ℕ, zero, suc}
-use borrow.Author.Tests.{eqb-true}
-use lib.Dec.{eqb}
+use Prim.Native.Nat.{ℕ, zero, suc, _≤_}
+use borrow.Author.Tests.{eqb-true, leb-true}
+use lib.Dec.{eqb, leb}
 use lib.ListN.{replicate}
 use Rattle.store.specs.Lists.{at, numbered, every}
 use Rattle.store.specs.Model.{Table, free, noShape, noEdge, blank, shapeAt}
-use Rattle.store.specs.Layout.{goodLimits, goodHeader, formattable, formatted, parse, laidOut}
-use Rattle.store.specs.ListLaws.{and-both, _and_, passed-all, every-place, every-replicate, every-same}
+use Rattle.store.specs.Layout.{limitSentences, goodLimits, goodHeader, formattable, formatted, parse, laidOut}
+use Rattle.store.specs.ListLaws.{and-both, _and_, all-passed, passed-all, every-place, every-replicate, every-same}
 use Rattle.store.specs.ThereAndBack.{parse-words, blank-words, fits-blank, laid-formatted}
 use Rattle.store.specs.declared.Limits.{Limits}
 use Rattle.store.specs.declared.Shape.{Shape}
@@ -99,11 +99,21 @@ module _ (l : Limits) (ws : List ℕ) (e : format l ws .1 ≡ Yes Done) where
   pub format-sound : sound (format l ws .0) ≡ true
   format-sound = rw (format-writes .1) (formatted-sound l (and-both (goodLimits l) (format-writes .0) .0))
 
-  -- No shape of it is held.
+  -- It is read as free records, in one table at least,
+  pub format-read : parse (format l ws .0) ≡ blank l
+  format-read = rw (format-writes .1) (formatted-read l)
+
+  pub format-tables : 1 ≤ l .T
+  format-tables =
+      let good = and-both (goodLimits l) (format-writes .0) .0 in
+      let within = all-passed (limitSentences l) good .1 .0 in
+      leb-true 1 (l .T) (and-both (leb 1 (l .T)) within .0)
+
+  -- and no shape of it is held.
   pub format-unheld : (n : ℕ) → shapeAt (parse (format l ws .0)) n .holds ≡ 0
   unfolding shapeAt
   format-unheld n =
       let none : Shape → Bool = λ s. eqb (s .holds) 0 in
       let shapes = replicate (l .S) noShape in
       let each = every-place noShape none shapes refl (every-replicate none (l .S) noShape refl) n in
-      rw (format-writes .1, formatted-read l) (eqb-true (at shapes n noShape .holds) 0 each)
+      rw format-read (eqb-true (at shapes n noShape .holds) 0 each)

@@ -47,5 +47,6 @@ pub mod AnswersFollow
 pub mod LogRight
 pub mod Demand3Heard
 pub mod LogLimit
+pub mod LongTrails
 pub mod LogExamples
 pub mod Instances

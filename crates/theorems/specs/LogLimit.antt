@@ -55,7 +55,7 @@ pub data TakesStep (n : ℕ) (ts : List Step) : Call → Step → Type 0 where
 -- ## The log after any calls
 
 -- What is written of a number is one of its lines.
-written-in : (xs : List Line) (n r : ℕ) (ts : List Step) → written xs n ≡ trailed r ts
+pub written-in : (xs : List Line) (n r : ℕ) (ts : List Step) → written xs n ≡ trailed r ts
     → line n (trailed r ts) ∈ xs
 written-in [] n r ts e = let z : _≡_ {A = ℕ} 0 1 = cc in absurd (omega arith)
 written-in (x ∷ xs) n r ts e = go (written-in xs n r ts) (either (eqb (x .number) n))

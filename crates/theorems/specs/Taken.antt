@@ -2,15 +2,18 @@
 -- Assumes nothing.
 use mathlib.Core.Bool.{Bool, true}
 use mathlib.Core.List.{List}
+use mathlib.Core.Logic.{inl, inr}
 use mathlib.Core.Path.{_≡_, refl, sym}
 use Prim.Native.Nat.{ℕ, _≤_}
 use native.Mathlib.Omega.{arith}
-use lib.Dec.{eqb}
+use borrow.Author.Tests.{leb-true, leb-false}
+use lib.Dec.{eqb, leb}
 use lib.ListN.{length}
 use Rattle.store.specs.Lists.{at, lowest}
+use Rattle.store.specs.ListLaws.{Decided, either, not-both}
 use Rattle.rules.specs.declared.Refusal.{Refusal}
 use Rattle.rules.specs.Refusals.{Got, ok, refused, _>>=_, place}
-use Rattle.rules.specs.FirstLaws.{place-given}
+use Rattle.rules.specs.FirstLaws.{place-given, place-refused}
 use Rattle.rules.specs.Settled.{guard-passed, same-given}
 
 -- What stands below a part has been given the part's result.
@@ -41,3 +44,20 @@ pub place-lowest : {A : Type 0} (r : Refusal) (isFree : A → Bool) (xs : List A
 place-lowest r isFree xs n e =
     let its = lowest isFree 1 xs in
     sym (same-given (guard-passed r (eqb its 0) (ok its) n e .1))
+
+-- Where a place is free, one is given that is no higher.
+pub place-found : {A : Type 0} (r : Refusal) (isFree : A → Bool) (d : A) (xs : List A) (n : ℕ) → 1 ≤ n
+    → n ≤ length xs → isFree (at xs n d) ≡ true → (p : ℕ) × (place r isFree xs ≡ ok p) × (p ≤ n)
+place-found r isFree d xs n low high isFreeN = go (either (eqb (lowest isFree 1 xs) 0))
+  where
+    its : ℕ
+    its = lowest isFree 1 xs
+
+    under : place r isFree xs ≡ ok its → Decided (leb its n) → its ≤ n
+    under gave (inl q) = leb-true its n q
+    under gave (inr q) =
+        not-both isFreeN (place-given isFree d r xs its .0 gave .noneBelow n low (leb-false its n q))
+
+    go : Decided (eqb its 0) → (p : ℕ) × (place r isFree xs ≡ ok p) × (p ≤ n)
+    go (inl q) = not-both isFreeN (place-refused isFree d r xs .0 (rw q) n low high)
+    go (inr q) = let gave : place r isFree xs ≡ ok its = rw q in (its, gave, under gave (either (leb its n)))
