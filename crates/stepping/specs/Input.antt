@@ -16,8 +16,8 @@ use Rattle.slot.specs.If.{if_then_else_}
 use Rattle.store.specs.Model.{Model}
 use Rattle.store.specs.Layout.{parse}
 use Rattle.store.specs.ListLaws.{Decided, either}
-use Rattle.rules.specs.Calls.{Call, call}
-use Rattle.rules.specs.Runner.{lineFeed, onFirst, parts, lineCall, inputCalls, fourNumbers, badLine, replies, runner}
+use Rattle.rules.specs.Calls.{Call}
+use Rattle.rules.specs.Runner.{lineFeed, onFirst, parts, lineCall, inputCalls, badLine, replies, runner}
 use Rattle.lines.specs.Writing.{replyText}
 use Rattle.stepping.specs.Answering.{answerTo}
 
