@@ -256,13 +256,14 @@ pub fn set_attributes_at_index(
 {
     let e = get_entry(image, table, position);
     let slot = e.slot;
+    let attributes = attributes.0 as u32;
     set_entry(
         image,
         table,
         position,
         Entry {
             key: e.key,
-            attributes: attributes.0 as u32,
+            attributes,
             slot,
         },
     );

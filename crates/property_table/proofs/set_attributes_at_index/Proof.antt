@@ -11,8 +11,8 @@ get-entry-requires c κs =
     let pre = c .before .before .pre in
     (pre .0, (pre .1 .0, pre .1 .1 .0))
 
-cast-t12 : tie.Need-cast-t12
-cast-t12 c = search needs
+cast-attributes : tie.Need-cast-attributes
+cast-attributes c = search needs
 
 set-entry-requires : tie.Need-set-entry-requires
 set-entry-requires c κs =
@@ -33,4 +33,4 @@ returns c =
 
 pub set-attributes-at-index-spec : {M : Type 1} → statement M
 set-attributes-at-index-spec =
-    tie.close (tie.spec get-entry-requires cast-t12 set-entry-requires same-length returns)
+    tie.close (tie.spec get-entry-requires cast-attributes set-entry-requires same-length returns)
