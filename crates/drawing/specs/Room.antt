@@ -1,14 +1,14 @@
 -- The step runner's image, and how long its graph may be.
 -- Assumes nothing.
 use mathlib.Core.List.{List}
-use mathlib.Core.Path.{_≡_, sym, ap, _∙_}
+use mathlib.Core.Path.{_≡_}
 use Prim.Native.Nat.{ℕ, _≤_}
 use native.Mathlib.Omega.{arith}
 use lib.ListN.{length, length-replicate}
-use Rattle.store.specs.Model.{noShape, noEdge, blank}
+use Rattle.store.specs.Model.{noShape, noEdge}
 use Rattle.store.specs.Layout.{parse, formatted}
-use Rattle.store.specs.ThereAndBack.{parse-words, blank-words, fits-blank}
 use Rattle.store.specs.Image.{Sizes}
+use Rattle.rules.specs.Formatted.{formatted-read}
 use Rattle.rules.specs.Runner.{runnerLimits}
 
 -- "S 256, T 32, K 32, E 256"
@@ -20,8 +20,7 @@ pub record Small (image : List ℕ) : Type 0 where
 pub small-blank : {image : List ℕ} → image ≡ formatted runnerLimits → Small image
 small-blank e =
     let l = runnerLimits in
-    let read : parse (formatted l) ≡ blank l =
-    ap parse (sym (blank-words l)) ∙ parse-words (blank l) (fits-blank l) in
+    let read = formatted-read l in
     rw e
     record {
       keys = rw read (omega arith);

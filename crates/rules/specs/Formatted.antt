@@ -75,7 +75,7 @@ blank-sound l =
     edges : (test : Edge → Bool) → test noEdge ≡ true → every test (replicate (l .E) noEdge) ≡ true
     edges test h = every-replicate test (l .E) noEdge h
 
-formatted-read : (l : Limits) → parse (formatted l) ≡ blank l
+pub formatted-read : (l : Limits) → parse (formatted l) ≡ blank l
 formatted-read l = ap parse (sym (blank-words l)) ∙ parse-words (blank l) (fits-blank l)
 
 -- Zeros after a header with limits in range are sound.

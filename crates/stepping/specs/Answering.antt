@@ -11,9 +11,9 @@ use lib.ListN.{length, length-replicate}
 use Rattle.slot.specs.If.{if_then_else_}
 use Rattle.store.specs.Model.{Model, free, noShape, noEdge, blank}
 use Rattle.store.specs.Layout.{parse, formattable, formatted}
-use Rattle.store.specs.ThereAndBack.{parse-words, blank-words, fits-blank}
+use Rattle.store.specs.ThereAndBack.{blank-words, fits-blank}
 use Rattle.store.specs.Image.{Formed, Lays, Becomes, unchanged}
-use Rattle.rules.specs.Formatted.{blank-sound}
+use Rattle.rules.specs.Formatted.{blank-sound, formatted-read}
 use Rattle.rules.specs.Refusals.{Got, ok, refused}
 use Rattle.rules.specs.Calls.{Call, Answer, Reply, perform, settle, call}
 use Rattle.rules.specs.Replies.{Answers}
@@ -71,11 +71,6 @@ module _ {ws : List ℕ} (ready : Ready ws) where
 runner-formattable : (ws : List ℕ) → length ws ≡ 6952 → formattable runnerLimits ws ≡ true
 runner-formattable ws e = eq-eqb (length ws) 6952 e
 
-runner-read : parse (formatted runnerLimits) ≡ blank runnerLimits
-runner-read =
-    let l = runnerLimits in
-    ap parse (sym (blank-words l)) ∙ parse-words (blank l) (fits-blank l)
-
 runner-ready : Ready (formatted runnerLimits)
 runner-ready =
     let l = runnerLimits in
@@ -90,7 +85,8 @@ runner-ready =
         edges = omega (arith, length-replicate 256 noEdge);
       };
     } in
-    record { formed = rw runner-read laid; isSound = rw runner-read (sound-facts m (fits-blank l) (blank-sound l)) }
+    let isSound = sound-facts m (fits-blank l) (blank-sound l) in
+    record { formed = rw (formatted-read l) laid; isSound = rw (formatted-read l) isSound }
 
 -- What the runner starts with.
 pub record Starts (ws : List ℕ) : Type 0 where
@@ -104,4 +100,4 @@ starts before {after} long e =
     record { blank = written; ready = rw written runner-ready }
 
 pub starts-read : {ws : List ℕ} → Starts ws → parse ws ≡ blank runnerLimits
-starts-read s = ap parse (s .blank) ∙ runner-read
+starts-read s = ap parse (s .blank) ∙ formatted-read runnerLimits
