@@ -2,7 +2,7 @@
 -- changes of prototype, each of the shape that the call before it answered, are all answered. It is a law, since
 -- so long a run is too long to be computed.
 -- Assumes nothing.
-use mathlib.Core.Bool.{true, false}
+use mathlib.Core.Bool.{Bool, true, false}
 use mathlib.Core.List.{List, [], _∷_, _++_}
 use mathlib.Core.Logic.{_⊎_, inl, inr, _≢_}
 use mathlib.Core.Option.{Option, none, some}
@@ -101,7 +101,9 @@ unfolding shapeAt edgeAt
 prune-above {m} {s} {e} a n kind =
     record {
       shapes = a .shapes;
-      edges = λ k high. ap freeEdge (prune-at n kind (m .edges) k) ∙ go k high (either (dead n kind (at (m .edges) k noEdge)));
+      edges = λ k high.
+          let x = at (m .edges) k noEdge in
+          ap freeEdge (prune-at n kind (m .edges) k) ∙ go k high (either (dead n kind x));
     }
   where
     go : (k : ℕ) → e < k → let x = at (m .edges) k noEdge in Decided (dead n kind x)
@@ -172,8 +174,9 @@ module _ (n p : ℕ) {s e : ℕ} where
               let u = shared-used (shapeAt m n) h in
               let keeps = pruned-keeps m sound n kind h in
               let same = keeps .sameLimits in
+              let h₁ = kept-shared h (keeps .keeps n u) in
               rw q
-              (make-gave (pruned m n kind) (keeps .isSound) (kept-shared h (keeps .keeps n u)) (pruned-above a n kind u)
+              (make-gave (pruned m n kind) (keeps .isSound) h₁ (pruned-above a n kind u)
               (rw (ap (λ (l : Limits). l .S) same) shapes) (rw (ap (λ (l : Limits). l .E) same) edges))
           cases (inr q) = rw q ((m, x .child), refl, above-more a)
 
@@ -363,20 +366,22 @@ root-answers m sound a tables isFree unheld i shapes edges few =
     granted-answers m sound newRoot i (fresh m rootShape []) (j, c) refl rule (omega arith) above lowC
     (omega arith) (omega arith) (λ k. omega (arith, unheld k))
 
+-- Every record of a blank model is free.
+all-free : {A : Type 0} (isFree : A → Bool) (count : ℕ) (x : A) → isFree x ≡ true → (k : ℕ)
+    → isFree (at (replicate count x) k x) ≡ true
+all-free isFree count x its = every-place x isFree (replicate count x) its (every-replicate isFree count x its)
+
 blank-above : (l : Limits) → Above (blank l) 0 0
 unfolding shapeAt edgeAt
 blank-above l =
     record {
-      shapes = λ k high.
-          every-place noShape freeShape (replicate (l .S) noShape) refl (every-replicate freeShape (l .S) noShape refl) k;
-      edges = λ k high.
-          every-place noEdge freeEdge (replicate (l .E) noEdge) refl (every-replicate freeEdge (l .E) noEdge refl) k;
+      shapes = λ k high. all-free freeShape (l .S) noShape refl k;
+      edges = λ k high. all-free freeEdge (l .E) noEdge refl k;
     }
 
 blank-table : (l : Limits) → freeTable (tableAt (blank l) 1) ≡ true
 unfolding tableAt
-blank-table l =
-    every-place free freeTable (replicate (l .T) free) refl (every-replicate freeTable (l .T) free refl) 1
+blank-table l = all-free freeTable (l .T) free refl 1
 
 -- A trail of n steps, for every n up to 1,023, where the image has room for n + 1 shapes and n edges.
 pub long-trails : (l : Limits) (ws : List ℕ) → format l ws .1 ≡ Yes Done → (n : ℕ) → n < 1024 → n < l .S
