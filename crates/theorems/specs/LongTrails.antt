@@ -2,7 +2,7 @@
 -- changes of prototype, each of the shape that the call before it answered, are all answered. It is a law, since
 -- so long a run is too long to be computed.
 -- Assumes nothing.
-use mathlib.Core.Bool.{true, false}
+use mathlib.Core.Bool.{Bool, true, false}
 use mathlib.Core.List.{List, [], _∷_, _++_}
 use mathlib.Core.Logic.{_⊎_, inl, inr, _≢_}
 use mathlib.Core.Option.{Option, none, some}
@@ -44,13 +44,13 @@ use Rattle.theorems.specs.Prunes.{pruned-keeps, counted-keeps}
 use Rattle.theorems.specs.Made.{SharedAt, transitionsAt}
 use Rattle.theorems.specs.SameTrail.{trail-length}
 use Rattle.theorems.specs.Quiet.{one, raw-holds, step-holds}
-use Rattle.theorems.specs.CallsKeep.{HeldAt, held-used, called, call-sound}
+use Rattle.theorems.specs.CallsKeep.{HeldAt, held-used, releasedBy, called, call-sound}
 use Rattle.theorems.specs.CallsDo.{root-does, prototype-does}
 use Rattle.theorems.specs.Sequence.{step-led}
 use Rattle.theorems.specs.Frame.{kept-shared}
 use Rattle.theorems.specs.WordsKeep.{sound-read, sound-call}
-use Rattle.theorems.specs.CallersLog.{Logged, trailed, Line, line, Log, emptyLog, written, addLine}
-use Rattle.theorems.specs.CallersLog.{strikeLine, logAfter, logFrom, heard}
+use Rattle.theorems.specs.CallersLog.{source, entryFor, leading, Logged, trailed, Line, line, Log}
+use Rattle.theorems.specs.CallersLog.{emptyLog, written, addLine, strikeLine, logAfter, logFrom, heard}
 use Rattle.theorems.specs.LogRight.{LogRight, line-held}
 use Rattle.theorems.specs.Demand3Heard.{right-over, log-right}
 use Rattle.theorems.specs.LogLimit.{written-in}
@@ -101,7 +101,9 @@ unfolding shapeAt edgeAt
 prune-above {m} {s} {e} a n kind =
     record {
       shapes = a .shapes;
-      edges = λ k high. ap freeEdge (prune-at n kind (m .edges) k) ∙ go k high (either (dead n kind (at (m .edges) k noEdge)));
+      edges = λ k high.
+          let x = at (m .edges) k noEdge in
+          ap freeEdge (prune-at n kind (m .edges) k) ∙ go k high (either (dead n kind x));
     }
   where
     go : (k : ℕ) → e < k → let x = at (m .edges) k noEdge in Decided (dead n kind x)
@@ -172,8 +174,9 @@ module _ (n p : ℕ) {s e : ℕ} where
               let u = shared-used (shapeAt m n) h in
               let keeps = pruned-keeps m sound n kind h in
               let same = keeps .sameLimits in
+              let h₁ = kept-shared h (keeps .keeps n u) in
               rw q
-              (make-gave (pruned m n kind) (keeps .isSound) (kept-shared h (keeps .keeps n u)) (pruned-above a n kind u)
+              (make-gave (pruned m n kind) (keeps .isSound) h₁ (pruned-above a n kind u)
               (rw (ap (λ (l : Limits). l .S) same) shapes) (rw (ap (λ (l : Limits). l .E) same) edges))
           cases (inr q) = rw q ((m, x .child), refl, above-more a)
 
@@ -220,68 +223,56 @@ module _ (m : Model) (sound : Sound m) where
           let one = one-few (either (eqb y k)) in
           omega arith
 
-  module _ (x p i : ℕ) (isHeld : HeldAt m x) (h : SharedAt m x) (below : transitionsAt m x + 1 < 1024)
-      (room : Room m (suc i)) where
-    -- The step's result, which is then held.
-    record Result : Type 0 where
-      y : Placed
-      above : Above (y .0) (room .shapesUsed + 1) (room .edgesUsed + 1)
-      isShared : SharedAt (y .0) (y .1)
-      calls : let z = shapeAt (y .0) (y .1) in
-          call m (changePrototype x p)
-          ≡ (putShape (y .0) (y .1) (withHolds z (z .holds + 1)), Yes (Given (y .1) Nothing (z .transitions)))
+  -- A call whose rule has given y, of which one hold more is granted.
+  granted-answers : (c : Call) (i : ℕ) (rule : Got Placed) (y : Placed) {s e : ℕ}
+      → perform m c ≡ (rule >>= grant Nothing) → rule ≡ ok y → shapeAt (y .0) (y .1) .holds < 65535
+      → Above (y .0) s e → y .1 ≤ s → s + i ≤ length (m .shapes) → e + i ≤ length (m .edges)
+      → ((k : ℕ) → shapeAt m k .holds + suc i < 65535) → Answers m c i
+  unfolding call
+  granted-answers c i rule y {s} {e} performs gave few above low shapes edges holds =
+      let z = shapeAt (y .0) (y .1) in
+      let j = putShape (y .0) (y .1) (withHolds z (z .holds + 1)) in
+      let held : grant Nothing y ≡ ok (j, Given (y .1) Nothing (z .transitions))
+      = rw (lt-leb 65535 (z .holds) few) in
+      let done = performs ∙ bind-ok rule (grant Nothing) y gave ∙ held in
+      let calls : call m c ≡ (j, Yes (Given (y .1) Nothing (z .transitions)))
+      = rw (facts-sound m sound .1, done) in
+      let answer = ap (λ (x : Model × Reply). x .1) calls in
+      let same = called m sound c .keeps .sameLimits in
+      record {
+        y = y .1;
+        count = z .transitions;
+        answer = answer;
+        room = record {
+          shapesUsed = s;
+          edgesUsed = e;
+          above = rw (ap (λ (x : Model × Reply). x .0) calls) (shape-above above (y .1) low _);
+          shapes = rw (ap (λ (l : Limits). l .S) same) shapes;
+          edges = rw (ap (λ (l : Limits). l .E) same) edges;
+          holds = holds-after c i (y .1) (z .transitions) answer (omega (arith, holds 0)) holds;
+        };
+      }
 
-    result : Result
-    unfolding call perform rebased limited
-    result =
-        let roomS = room .shapes in
-        let roomE = room .edges in
-        let (y, gave, above) = step-gave x p m sound h (room .above) (omega arith) (omega arith) in
-        let l = step-led m sound x h (prototype p) (omega arith) (refl, refl, tt) y gave in
-        let z = shapeAt (y .0) (y .1) in
-        let long = l .itsCount in
-        let many = step-holds m x (prototype p) y gave (y .1) in
-        let raw = raw-holds m sound (y .1) in
-        let now = raw-holds (y .0) (l .keeps .isSound) (y .1) in
-        let was = room .holds (y .1) in
-        let few : z .holds < 65535 = omega arith in
-        let more : z .transitions ≢ 1024 = λ full. omega (arith, long, full, below) in
-        let may : unheld m x ≡ false = rw (held-used m sound x isHeld, ne-eqb (shapeAt m x .holds) 0 isHeld) in
-        let limit : limited y ≡ ok y = rw (ne-eqb (z .transitions) 1024 more) in
-        let rule : rebased m x p ≡ ok y
-        = rw (shared-not-unique (shapeAt m x) h) (bind-ok (step m x (prototype p)) limited y gave ∙ limit) in
-        let answer = Given (y .1) Nothing (z .transitions) in
-        let held : grant Nothing y ≡ ok (putShape (y .0) (y .1) (withHolds z (z .holds + 1)), answer)
-        = rw (lt-leb 65535 (z .holds) few) in
-        let done : perform m (changePrototype x p)
-        ≡ ok (putShape (y .0) (y .1) (withHolds z (z .holds + 1)), answer)
-        = rw may (bind-ok (rebased m x p) (grant Nothing) y rule ∙ held) in
-        record { y = y; above = above; isShared = l .isShared; calls = rw (facts-sound m sound .1, done) }
-
-    changed-answers : Answers m (changePrototype x p) i
-    changed-answers =
-        let r = result in
-        let (j, c) = r .y in
-        let z = shapeAt j c in
-        let roomS = room .shapes in
-        let roomE = room .edges in
-        let answer = ap (λ (x : Model × Reply). x .1) (r .calls) in
-        let same = called m sound (changePrototype x p) .keeps .sameLimits in
-        record {
-          y = c;
-          count = z .transitions;
-          answer = answer;
-          room = record {
-            shapesUsed = room .shapesUsed + 1;
-            edgesUsed = room .edgesUsed + 1;
-            above = rw (r .calls)
-                (shape-above (r .above) c (used-below (r .above) c (shared-used z (r .isShared))) _);
-            shapes = rw (ap (λ (l : Limits). l .S) same) (omega arith);
-            edges = rw (ap (λ (l : Limits). l .E) same) (omega arith);
-            holds = holds-after (changePrototype x p) i c (z .transitions) answer
-                (omega (arith, room .holds 0)) (room .holds);
-          };
-        }
+  changed-answers : (x p i : ℕ) → HeldAt m x → SharedAt m x → transitionsAt m x + 1 < 1024 → Room m (suc i)
+      → Answers m (changePrototype x p) i
+  unfolding perform rebased limited
+  changed-answers x p i isHeld h below room =
+      let shapes = room .shapes in
+      let edges = room .edges in
+      let (y, gave, above) = step-gave x p m sound h (room .above) (omega arith) (omega arith) in
+      let l = step-led m sound x h (prototype p) (omega arith) (refl, refl, tt) y gave in
+      let z = shapeAt (y .0) (y .1) in
+      let many = step-holds m x (prototype p) y gave (y .1) in
+      let raw = raw-holds m sound (y .1) in
+      let now = raw-holds (y .0) (l .keeps .isSound) (y .1) in
+      let was = room .holds (y .1) in
+      let more : z .transitions ≢ 1024 = λ full. omega (arith, l .itsCount, full, below) in
+      let may : unheld m x ≡ false = rw (held-used m sound x isHeld, ne-eqb (shapeAt m x .holds) 0 isHeld) in
+      let limit : limited y ≡ ok y = rw (ne-eqb (z .transitions) 1024 more) in
+      let rule : rebased m x p ≡ ok y
+      = rw (shared-not-unique (shapeAt m x) h) (bind-ok (step m x (prototype p)) limited y gave ∙ limit) in
+      granted-answers (changePrototype x p) i (rebased m x p) y (rw may) rule (omega arith) above
+      (used-below above (y .1) (shared-used z (l .isShared))) (omega arith) (omega arith) (room .holds)
 
 -- ## One call after the other
 
@@ -298,41 +289,54 @@ pub record LedTo (ws : List ℕ) (l : Log) (n : ℕ) : Type 0 where
 new-written : (xs : List Line) (n : ℕ) (e : Logged) → n ≢ 0 → written (addLine n e xs) n ≡ e
 new-written xs n e place = rw (ne-eqb n 0 place, eq-eqb n n refl)
 
-leads-on : (i : ℕ) (ws : List ℕ) (l : Log) → sound ws ≡ true → LogRight (parse ws) l
-    → (x r : ℕ) (ts : List Step) → written (l .lines) x ≡ trailed r ts
-    → length ts + i < 1024 → Room (parse ws) i → LedTo ws l (length ts + i)
-leads-on zero ws l e right x r ts logged few room =
+-- One call more, of whose answer the log says the trail us.
+one-more : (ws : List ℕ) (l : Log) → sound ws ≡ true → (c : Call) {i n r : ℕ} {us : List Step}
+    → (a : Answers (parse ws) c i) → HeldAt (call (parse ws) c .0) (a .y)
+    → entryFor (l .roots) (written (l .lines)) (source c) ≡ trailed r us
+    → (written (logAfter c (callOn ws c .1) l .lines) (a .y) ≡ trailed r us → Room (parse (callOn ws c .0)) i
+    → LedTo (callOn ws c .0) (logAfter c (callOn ws c .1) l) n)
+    → LedTo ws l n
+one-more ws l e c {r = r} {us} a isHeld entry rest =
+    let m = parse ws in
+    let s = sound-call ws c e in
+    let j = call m c .0 in
+    let place = used-place j (a .y) (held-used j (call-sound m c (sound-read ws e .isSound)) (a .y) isHeld) in
+    let next : written (logAfter c (callOn ws c .1) l .lines) (a .y) ≡ trailed r us
+    = rw (s .reply ∙ a .answer, entry)
+    (new-written (strikeLine (releasedBy c) (l .lines)) (a .y) (trailed r us) place) in
+    let more = rest next (rw (s .model) (a .room)) in
+    record {
+      calls = c ∷ more .calls;
+      number = more .number;
+      root = more .root;
+      steps = more .steps;
+      isWritten = more .isWritten;
+      itsLength = more .itsLength;
+    }
+
+leads-on : (i n : ℕ) (ws : List ℕ) (l : Log) → sound ws ≡ true → LogRight (parse ws) l
+    → (x r : ℕ) (ts : List Step) → written (l .lines) x ≡ trailed r ts → length ts + i ≡ n → n < 1024
+    → Room (parse ws) i → LedTo ws l n
+leads-on zero n ws l e right x r ts logged long few room =
     record { calls = []; number = x; root = r; steps = ts; isWritten = logged; itsLength = omega arith }
-leads-on (suc i) ws l e right x r ts logged few room =
+leads-on (suc i) n ws l e right x r ts logged long few room =
     let m = parse ws in
     let isSound = sound-read ws e .isSound in
     let there = written-in (l .lines) x r ts logged in
     let isHeld = line-held m isSound l right (line x (trailed r ts)) there in
     let (h, told, _) = right .each (line x (trailed r ts)) there in
-    let long = trail-length m x in
-    let its = ap length told in
+    let its = trail-length m x in
+    let same = ap length told in
     let c = changePrototype x 0 in
     let a = changed-answers m isSound x 0 i isHeld h (omega arith) room in
-    let s = sound-call ws c e in
-    let reply = s .reply ∙ a .answer in
     let did = prototype-does m isSound x 0 (ap (λ (r : Reply). (call m c .0, r)) (a .answer)) in
-    let j = call m c .0 in
-    let place = used-place j (a .y) (held-used j (call-sound m c isSound) (a .y) (did .answered .isHeld)) in
     let us = ts ++ prototype 0 ∷ [] in
     let more = length-append ts (prototype 0 ∷ []) in
-    let next : written (logAfter c (callOn ws c .1) l .lines) (a .y) ≡ trailed r us
-    = rw (reply, logged, ne-eqb (length us) 1024 (λ full. omega (arith, more, full)))
-    (new-written (strikeLine 0 (l .lines)) (a .y) (trailed r us) place) in
-    let rest = leads-on i (callOn ws c .0) (logAfter c (callOn ws c .1) l) (s .isSound)
-    (right-over ws (c ∷ []) l e right) (a .y) r us next (omega arith) (rw (s .model) (a .room)) in
-    record {
-      calls = c ∷ rest .calls;
-      number = rest .number;
-      root = rest .root;
-      steps = rest .steps;
-      isWritten = rest .isWritten;
-      itsLength = rest .itsLength ∙ omega arith;
-    }
+    let entry : leading (λ ts. ts ++ prototype 0 ∷ []) (written (l .lines) x) ≡ trailed r us
+    = rw (logged, ne-eqb (length us) 1024 (λ full. omega (arith, more, full))) in
+    one-more ws l e c a (did .answered .isHeld) entry (λ next room.
+    leads-on i n (callOn ws c .0) (logAfter c (callOn ws c .1) l) (sound-call ws c e .isSound)
+    (right-over ws (c ∷ []) l e right) (a .y) r us next (omega arith) few room)
 
 -- ## From a formatted image
 
@@ -340,78 +344,44 @@ table-above : {m : Model} {s e : ℕ} → Above m s e → (t : ℕ) (x : Table) 
 unfolding shapeAt edgeAt putTable
 table-above a t x = record { shapes = a .shapes; edges = a .edges }
 
-module _ (m : Model) (sound : Sound m) (a : Above m 0 0) (shapes : 1 ≤ length (m .shapes))
-    (tables : 1 ≤ length (m .tables)) (isFree : freeTable (tableAt m 1) ≡ true) where
-  -- A new root where nothing is in use, and its table.
-  record Root : Type 0 where
-    c : ℕ
-    t : ℕ
-    low : c ≤ 1
-    calls : let j = putShape (putTable m t (used [])) c (rootShape t) in
-        let z = shapeAt j c in
-        call m newRoot ≡ (putShape j c (withHolds z (z .holds + 1)), Yes (Given c Nothing (z .transitions)))
+-- A new root is answered where nothing is in use.
+root-answers : (m : Model) → Sound m → Above m 0 0 → 1 ≤ length (m .tables) → freeTable (tableAt m 1) ≡ true
+    → ((k : ℕ) → shapeAt m k .holds ≡ 0) → (i : ℕ) → i < length (m .shapes) → i ≤ length (m .edges) → i < 1024
+    → Answers m newRoot i
+unfolding perform fresh tableAt shapeAt
+root-answers m sound a tables isFree unheld i shapes edges few =
+    let (c, gaveC, lowC) = place-found ShapesFull freeShape noShape (m .shapes) 1 (omega arith) (omega arith)
+    (a .shapes 1 (omega arith)) in
+    let (t, gaveT, _) = place-found TablesFull freeTable free (m .tables) 1 (omega arith) tables isFree in
+    let j = putShape (putTable m t (used [])) c (rootShape t) in
+    let rule : fresh m rootShape [] ≡ ok (j, c)
+    = bind-ok (place ShapesFull freeShape (m .shapes)) _ c gaveC
+    ∙ bind-ok (copyTo m []) _ (putTable m t (used []), t)
+    (bind-ok (place TablesFull freeTable (m .tables)) _ t gaveT) in
+    let empty : GoodTable (m .K) [] = record { good = refl; room = omega arith } in
+    let f = fresh-keeps m sound rootShape [] fresh-root empty (j, c) rule in
+    let none = ap (λ (x : Shape). x .holds) (f .stands) in
+    let one : Above m 1 0 = record { shapes = λ k high. a .shapes k (omega arith); edges = a .edges } in
+    let above = shape-above (table-above one t (used [])) c lowC (rootShape t) in
+    granted-answers m sound newRoot i (fresh m rootShape []) (j, c) refl rule (omega arith) above lowC
+    (omega arith) (omega arith) (λ k. omega (arith, unheld k))
 
-  new-root : Root
-  unfolding call perform fresh tableAt shapeAt
-  new-root =
-      let (c, gaveC, lowC) = place-found ShapesFull freeShape noShape (m .shapes) 1 (omega arith) shapes
-      (a .shapes 1 (omega arith)) in
-      let (t, gaveT, _) = place-found TablesFull freeTable free (m .tables) 1 (omega arith) tables isFree in
-      let j = putShape (putTable m t (used [])) c (rootShape t) in
-      let rule : fresh m rootShape [] ≡ ok (j, c)
-      = bind-ok (place ShapesFull freeShape (m .shapes)) _ c gaveC
-      ∙ bind-ok (copyTo m []) _ (putTable m t (used []), t)
-      (bind-ok (place TablesFull freeTable (m .tables)) _ t gaveT) in
-      let empty : GoodTable (m .K) [] = record { good = refl; room = omega arith } in
-      let f = fresh-keeps m sound rootShape [] fresh-root empty (j, c) rule in
-      let z = shapeAt j c in
-      let none : z .holds ≡ 0 = ap (λ (x : Shape). x .holds) (f .stands) in
-      let answer = Given c Nothing (z .transitions) in
-      let held : grant Nothing (j, c) ≡ ok (putShape j c (withHolds z (z .holds + 1)), answer)
-      = rw (lt-leb 65535 (z .holds) (omega arith)) in
-      let done : perform m newRoot ≡ ok (putShape j c (withHolds z (z .holds + 1)), answer)
-      = bind-ok (fresh m rootShape []) (grant Nothing) (j, c) rule ∙ held in
-      record { c = c; t = t; low = lowC; calls = rw (facts-sound m sound .1, done) }
-
-  root-answers : (i : ℕ) → i < length (m .shapes) → i ≤ length (m .edges) → i < 1024
-      → ((k : ℕ) → shapeAt m k .holds ≡ 0) → Answers m newRoot i
-  root-answers i fits edges few unheld =
-      let r = new-root in
-      let c = r .c in
-      let j = putShape (putTable m (r .t) (used [])) c (rootShape (r .t)) in
-      let answer = ap (λ (x : Model × Reply). x .1) (r .calls) in
-      let same = called m sound newRoot .keeps .sameLimits in
-      let one : Above m 1 0 = record { shapes = λ k high. a .shapes k (omega arith); edges = a .edges } in
-      let placed = shape-above (table-above one (r .t) (used [])) c (r .low) (rootShape (r .t)) in
-      record {
-        y = c;
-        count = shapeAt j c .transitions;
-        answer = answer;
-        room = record {
-          shapesUsed = 1;
-          edgesUsed = 0;
-          above = rw (r .calls) (shape-above placed c (r .low) _);
-          shapes = rw (ap (λ (l : Limits). l .S) same) (omega arith);
-          edges = rw (ap (λ (l : Limits). l .E) same) (omega arith);
-          holds = holds-after m sound newRoot i c (shapeAt j c .transitions) answer (omega arith)
-              (λ k. omega (arith, unheld k));
-        };
-      }
+-- Every record of a blank model is free.
+all-free : {A : Type 0} (isFree : A → Bool) (count : ℕ) (x : A) → isFree x ≡ true → (k : ℕ)
+    → isFree (at (replicate count x) k x) ≡ true
+all-free isFree count x its = every-place x isFree (replicate count x) its (every-replicate isFree count x its)
 
 blank-above : (l : Limits) → Above (blank l) 0 0
 unfolding shapeAt edgeAt
 blank-above l =
     record {
-      shapes = λ k high.
-          every-place noShape freeShape (replicate (l .S) noShape) refl (every-replicate freeShape (l .S) noShape refl) k;
-      edges = λ k high.
-          every-place noEdge freeEdge (replicate (l .E) noEdge) refl (every-replicate freeEdge (l .E) noEdge refl) k;
+      shapes = λ k high. all-free freeShape (l .S) noShape refl k;
+      edges = λ k high. all-free freeEdge (l .E) noEdge refl k;
     }
 
 blank-table : (l : Limits) → freeTable (tableAt (blank l) 1) ≡ true
 unfolding tableAt
-blank-table l =
-    every-place free freeTable (replicate (l .T) free) refl (every-replicate freeTable (l .T) free refl) 1
+blank-table l = all-free freeTable (l .T) free refl 1
 
 -- A trail of n steps, for every n up to 1,023, where the image has room for n + 1 shapes and n edges.
 pub long-trails : (l : Limits) (ws : List ℕ) → format l ws .1 ≡ Yes Done → (n : ℕ) → n < 1024 → n < l .S
@@ -422,24 +392,11 @@ long-trails l ws e n few shapes edges =
     let m = parse image in
     let read = format-read l ws e in
     let sound = sound-read image isSound .isSound in
-    let inside : n < length (m .shapes) = rw (read, length-replicate) shapes in
-    let a = root-answers m sound (rw read (blank-above l)) (omega arith)
-    (rw (read, length-replicate) (format-tables l ws e)) (rw read (blank-table l)) n inside
-    (rw (read, length-replicate) edges) few (format-unheld l ws e) in
-    let s = sound-call image newRoot isSound in
-    let j = call m newRoot .0 in
-    let did = root-does m sound (ap (λ (r : Reply). (j, r)) (a .answer)) .0 in
-    let place = used-place j (a .y) (held-used j (call-sound m newRoot sound) (a .y) (did .isHeld)) in
-    let next : written (logAfter newRoot (callOn image newRoot .1) emptyLog .lines) (a .y) ≡ trailed 0 []
-    = rw (s .reply ∙ a .answer) (new-written [] (a .y) (trailed 0 []) place) in
-    let rest = leads-on n (callOn image newRoot .0) (logAfter newRoot (callOn image newRoot .1) emptyLog)
-    (s .isSound) (right-over image (newRoot ∷ []) emptyLog isSound (log-right l ws e [])) (a .y) 0 [] next
-    (omega arith) (rw (s .model) (a .room)) in
-    record {
-      calls = newRoot ∷ rest .calls;
-      number = rest .number;
-      root = rest .root;
-      steps = rest .steps;
-      isWritten = rest .isWritten;
-      itsLength = rest .itsLength ∙ omega arith;
-    }
+    let a = root-answers m sound (rw read (blank-above l)) (rw (read, length-replicate) (format-tables l ws e))
+    (rw read (blank-table l)) (format-unheld l ws e) n (rw (read, length-replicate) shapes)
+    (rw (read, length-replicate) edges) few in
+    let did = root-does m sound (ap (λ (r : Reply). (call m newRoot .0, r)) (a .answer)) .0 in
+    one-more image emptyLog isSound newRoot a (did .isHeld) refl (λ next room.
+    leads-on n n (callOn image newRoot .0) (logAfter newRoot (callOn image newRoot .1) emptyLog)
+    (sound-call image newRoot isSound .isSound)
+    (right-over image (newRoot ∷ []) emptyLog isSound (log-right l ws e [])) (a .y) 0 [] next (omega arith) few room)
