@@ -109,8 +109,8 @@ after-requires c κs =
       pre .0 .limited .keys,
     )
 
-add-t14 : tie.Need-add-t14 Inv-loop μ-loop
-add-t14 c = search needs
+add-passed : tie.Need-add-passed Inv-loop μ-loop
+add-passed c = search needs
 
 loop-less : tie.Need-loop-less Inv-loop μ-loop
 loop-less c = search needs
@@ -156,7 +156,7 @@ entries-right-spec =
     slice-write-codes
     entry-width-requires
     after-requires
-    add-t14
+    add-passed
     loop-less
     loop-again
     same-length-2
