@@ -69,7 +69,8 @@ pub fn write_rows(out: &mut [u8], at: usize, image: &[u32], table: u32, count: u
     let mut position = KeyPosition(0);
     while position.0 < count {
         end = write_row(out, end, get_entry(image, table, position));
-        position = KeyPosition(position.0 + 1);
+        let passed = position.0 + 1;
+        position = KeyPosition(passed);
     }
     end
 }

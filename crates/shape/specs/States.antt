@@ -69,7 +69,8 @@ module _ (m : Model) (n : ℕ) where
 
       pub insert-legal : {k a : ℕ} → goodKey k ≡ true → a ≤ mostStored → has k (entriesAt m n) ≡ false
           → Legal m n (insert k a)
-      insert-legal {k} {a} good low absent = legal (insert k a) (both-and good (le-leb a mostStored low)) (ap not absent)
+      insert-legal {k} {a} good low absent =
+          legal (insert k a) (both-and good (le-leb a mostStored low)) (ap not absent)
 
       pub prototype-legal : (p : ℕ) → Legal m n (prototype p)
       prototype-legal p = legal (prototype p) refl refl

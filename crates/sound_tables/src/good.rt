@@ -61,7 +61,8 @@ fn entries_right(image: &[u32], t: u32, codes: &mut [u64]) -> bool
         let place = wide(position.0);
         codes[place] = e.key as u64;
         next = next.after(entry_width(e));
-        position = KeyPosition(position.0 + 1);
+        let passed = position.0 + 1;
+        position = KeyPosition(passed);
     }
     true
 }

@@ -35,8 +35,8 @@ write-row-requires c κs =
       (fits .1, row-room _ _ inside (at-loop .loop .inv) (start .pre .1 .1 .1 .1) (at-if1 .if1 .taken)),
     )
 
-add-t12 : tie.Need-add-t12 Inv-loop μ-loop
-add-t12 c = search needs
+add-passed : tie.Need-add-passed Inv-loop μ-loop
+add-passed c = search needs
 
 loop-less : tie.Need-loop-less Inv-loop μ-loop
 loop-less c = search needs
@@ -68,7 +68,7 @@ write-rows-spec =
     loop-holds
     get-entry-requires
     write-row-requires
-    add-t12
+    add-passed
     loop-less
     loop-again
     same-length

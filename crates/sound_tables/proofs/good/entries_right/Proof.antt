@@ -67,20 +67,19 @@ mul-codes c = search needs
 
 slice-write-codes : tie.Need-slice-write-codes Inv-loop μ-loop
 slice-write-codes c =
-    let args = c .before .before .before .before .before .before .before .before .before .before .before .args in
-    let pre = c .before .before .before .before .before .before .before .before .before .before .before .pre in
-    let entry-count = c .before .before .before .before .before .before .before .before .entry-count in
-    let loop = c .before .before .before .before .before .before .before .loop in
-    let if1 = c .before .before .before .before .before .if1 in
-    let wide = c .before .wide in
+    let at-entry = c .before .before .before .before in
+    let at-if1 = at-entry .before in
+    let at-loop = at-if1 .before .before in
+    let at-count = at-loop .before in
+    let start = at-count .before .before .before in
     omega (
       arith,
-      loop .inv .written .kept,
-      if1 .taken,
-      entry-count .ensures,
-      wide .ensures,
-      entries-fit (pre .0) (args .t),
-      pre .1 .1,
+      at-loop .loop .inv .written .kept,
+      at-if1 .if1 .taken,
+      at-count .entry-count .ensures,
+      c .before .wide .ensures,
+      entries-fit (start .pre .0) (start .args .t),
+      start .pre .1 .1,
     )
 
 entry-width-requires : tie.Need-entry-width-requires Inv-loop μ-loop
@@ -92,42 +91,41 @@ entry-width-requires c κs =
 
 after-requires : tie.Need-after-requires Inv-loop μ-loop
 after-requires c κs =
-    let args = c .before .before .before .before .before .before .before .before .before .before .before .before .args in
-    let pre = c .before .before .before .before .before .before .before .before .before .before .before .before .pre in
-    let entry-count = c .before .before .before .before .before .before .before .before .before .entry-count in
-    let loop = c .before .before .before .before .before .before .before .before .loop in
-    let if1 = c .before .before .before .before .before .before .if1 in
-    let get-entry = c .before .before .before .before .before .get-entry in
+    let at-entry = c .before .before .before .before .before in
+    let at-if1 = at-entry .before in
+    let at-loop = at-if1 .before .before in
+    let at-count = at-loop .before in
+    let start = at-count .before .before .before in
     omega (
       arith,
       c .entry-width .ensures,
-      narrow (get-entry .result .attributes),
-      loop .inv .small,
-      if1 .taken,
-      entry-count .ensures,
-      entries-fit (pre .0) (args .t),
-      pre .0 .limited .keys,
+      narrow (at-entry .get-entry .result .attributes),
+      at-loop .loop .inv .small,
+      at-if1 .if1 .taken,
+      at-count .entry-count .ensures,
+      entries-fit (start .pre .0) (start .args .t),
+      start .pre .0 .limited .keys,
     )
 
-add-t14 : tie.Need-add-t14 Inv-loop μ-loop
-add-t14 c = search needs
+add-passed : tie.Need-add-passed Inv-loop μ-loop
+add-passed c = search needs
 
 loop-less : tie.Need-loop-less Inv-loop μ-loop
 loop-less c = search needs
 
 loop-again : tie.Need-loop-again Inv-loop μ-loop
 loop-again c =
-    let entry-count = c .before .before .before .before .before .before .before .before .before .before .before .entry-count in
-    let loop = c .before .before .before .before .before .before .before .before .before .before .loop in
-    let if1 = c .before .before .before .before .before .before .before .before .if1 in
-    let get-entry = c .before .before .before .before .before .before .before .get-entry in
+    let at-entry = c .before .before .before .before .before .before .before in
+    let at-if1 = at-entry .before in
+    let at-loop = at-if1 .before .before in
+    let at-count = at-loop .before in
     let entry-right = c .before .before .before .before .before .before .entry-right in
     let if2 = c .before .before .before .before .before .if2 in
     let wide = c .before .before .before .before .wide in
-    let entry-width = c .before .before .entry-width in
     rw (c .before .after .ensures)
-    (entry-next (loop .inv) (entry-count .ensures) (if1 .taken) (get-entry .ensures)
-    (entry-right .ensures) (not-false _ (if2 .left)) (entry-width .ensures) (wide .ensures))
+    (entry-next (at-loop .loop .inv) (at-count .entry-count .ensures) (at-if1 .if1 .taken)
+    (at-entry .get-entry .ensures) (entry-right .ensures) (not-false _ (if2 .left))
+    (c .before .before .entry-width .ensures) (wide .ensures))
 
 same-length-2 : tie.Need-same-length-2 Inv-loop μ-loop
 same-length-2 c = c .before .before .loop .inv .written .kept
@@ -156,7 +154,7 @@ entries-right-spec =
     slice-write-codes
     entry-width-requires
     after-requires
-    add-t14
+    add-passed
     loop-less
     loop-again
     same-length-2
