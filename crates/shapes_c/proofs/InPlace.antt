@@ -15,7 +15,8 @@ use denote.Ref.{now}
 use denote.Triple.Entry.{Args}
 use denote.Triple.Spec.{exits}
 use Rattle.replies.specs.declared.ReplyNumbers.{ReplyNumbers}
-use Rattle.rules.specs.Calls.{insertKey, changeKey, removeKey, changePrototype, lookup, keysInto, callOn, format}
+use Rattle.rules.specs.Calls.{insertKey, changeKey, removeKey, changePrototype, ask, lookup, keysInto, callOn}
+use Rattle.rules.specs.Calls.{format}
 use Rattle.shapes_c.specs.Told.{Tells, limitsAre, listedIn}
 use Rattle.shapes_c.proofs.shapes_format as c-format
 use Rattle.shapes_c.proofs.shapes_insert as c-insert
@@ -78,13 +79,13 @@ module _ {M : Type 1} (𝓤 : URA M) (H : Heap 𝓤) (A : Atoms 𝓤) (mem : Mem
     pub lookup-in-place : (args : Args c-lookup.signature κs) (n : ReplyNumbers)
         → c-lookup.spec 𝓤 H A mem run κs args .ensures tt n
         ≡ exits 𝓤 H A c-lookup.signature (c-lookup.ended .kept) κs args
-        (λ end. ⌜ Tells (now (args .0)) n (callOn (now (args .0)) (lookup (first args) (second args))) ⌝)
+        (λ end. ⌜ Tells (now (args .0)) n (callOn (now (args .0)) (ask (first args) (lookup (second args)))) ⌝)
     lookup-in-place args n = refl
 
   -- Here the list's slice is the second.
   pub keys-in-place : (κs : Lfts 2) (args : Args c-keys.signature κs) (n : ReplyNumbers)
       → c-keys.spec 𝓤 H A mem run κs args .ensures tt n
       ≡ exits 𝓤 H A c-keys.signature (c-keys.ended .kept) κs args
-      (λ end. let said = callOn (now (args .0)) (keysInto (first args) (now (second args))) in
+      (λ end. let said = callOn (now (args .0)) (ask (first args) (keysInto (now (second args)))) in
       ⌜ Tells (now (args .0)) n said ⌝ ∗ ⌜ now (second end) ≡ listedIn (now (second args)) said ⌝)
   keys-in-place κs args n = refl
