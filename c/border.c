@@ -108,6 +108,9 @@ int main(void) {
     questions();
     calls_that_give_shapes_back();
     printf("%u of %u calls answer and leave what document 01 says\n", calls - failures, calls);
+    printf("the attributes are %d, %d, %d, %d and %d; keys begin at %u, %u and %u\n", SHAPES_WRITABLE, SHAPES_ENUMERABLE,
+           SHAPES_CONFIGURABLE, SHAPES_GET, SHAPES_SET, (unsigned)SHAPES_STRING(0), (unsigned)SHAPES_SYMBOL(0),
+           (unsigned)SHAPES_INDEX(0));
     printf("the four numbers stand at bytes %u, %u, %u and %u of %u\n", (unsigned)at[0], (unsigned)at[1], (unsigned)at[2],
            (unsigned)at[3], (unsigned)sizeof(struct shapes_reply));
     return failures != 0 || at[0] != 0 || at[1] != 4 || at[2] != 8 || at[3] != 12 || sizeof(struct shapes_reply) != 16;
