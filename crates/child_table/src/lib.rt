@@ -1,4 +1,6 @@
 // The table of the child that a step makes of a shared shape.
+#![tactic(auto)]
+
 ghost use Rattle.store.specs.Layout.{parse};
 ghost use Rattle.store.specs.Image.{Formed};
 ghost use Rattle.rules.specs.declared.Placement.TheVariants.{At};

@@ -1,6 +1,8 @@
 // Reads an image's words, a row for a record, and changes each word, one at a time, to some other values. Prints for
 // each area how many images were tried and how many of them are still sound. vectors/damage.py counts the same by
 // document 01 alone.
+#![tactic(auto)]
+
 use header::format;
 use soundness::is_sound;
 use std::num::{wrapping_add_u32, wrapping_add_u64, wrapping_add_usize, wrapping_sub_u32};
@@ -11,14 +13,14 @@ const VALUES: [u32; 18] = [
     4294967295,
 ];
 
-#[derive(Drop)]
+#[derive(Clone, Copy)]
 pub struct Count {
     pub tried: u64,
     pub sound: u64,
 }
 
 // A number that is being read, and how many were read before it.
-#[derive(Drop)]
+#[derive(Clone, Copy)]
 pub struct Reading {
     pub value: u64,
     pub inside: bool,

@@ -1,4 +1,6 @@
 // Whether codes are distinct, in linear time where they are scattered.
+#![tactic(auto)]
+
 ghost use Rattle.std.specs.Prelude.{◌≡◌, ◌≤◌, length, take};
 ghost use Rattle.rules.specs.Sound.{distinct};
 ghost use Rattle.distinct.specs.Verdicts.{Roomy, Tells};
@@ -13,7 +15,7 @@ mod seats;
 mod sorting;
 
 // What a quick way found.
-#[derive(Drop)]
+#[derive(Clone, Copy)]
 enum Verdict {
     Distinct,
     Twice,

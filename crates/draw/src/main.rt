@@ -1,4 +1,6 @@
 // Replays a step file as the step runner does, and prints the shapes at its end as a graph.
+#![tactic(auto)]
+
 ghost use Rattle.std.specs.Prelude.{◌≡◌, length};
 ghost use Rattle.stepping.specs.Answering.{Starts};
 

@@ -1,5 +1,7 @@
 // The edges that lead from a shape to the children that its steps made.
 // A dead edge is one whose child was swept.
+#![tactic(auto)]
+
 ghost use Rattle.std.specs.Prelude.{◌≡◌, ◌+◌, ◌%◌, ◌≤◌, ◌&&◌, length, ◌==◌};
 ghost use Rattle.store.specs.Lists.{first, keep, lowest};
 ghost use Rattle.store.specs.Layout.{parse};
@@ -16,7 +18,7 @@ use store::rows::one_if;
 use store::{Counters, Edge, EdgeKind, StepKind};
 
 // What the edges say of a step: its child, that its child was swept, or that none was made.
-#[derive(Drop)]
+#[derive(Clone, Copy)]
 pub enum Transition {
     Live(u32),
     Dead,

@@ -1,4 +1,6 @@
 // A shape in the lowest free place, with a table of its own in the lowest free place.
+#![tactic(auto)]
+
 ghost use Rattle.std.specs.Prelude.{◌≡◌, [], length};
 ghost use Rattle.store.specs.Model.{shape_at, put_shape};
 ghost use Rattle.store.specs.Layout.{parse};
@@ -14,13 +16,13 @@ use rules::{Placement, Refusal};
 use store::image::{get_shape, lowest_free_shape, lowest_free_table, put_shape, start_table};
 use store::{Counters, Shape, ShapeState};
 
-#[derive(Drop)]
+#[derive(Clone, Copy)]
 pub struct FreePlaces {
     pub shape: u32,
     pub table: u32,
 }
 
-#[derive(Drop)]
+#[derive(Clone, Copy)]
 pub enum FreeRoom {
     At(FreePlaces),
     Full(Refusal),

@@ -1,4 +1,6 @@
 // The header of the lent image: its test, and formatting.
+#![tactic(auto)]
+
 ghost use Rattle.std.specs.Prelude.{◌≡◌, Bool, ◌&&◌, ◌++◌, ◌≤◌, length, drop};
 ghost use Rattle.slot.specs.If.{if◌then◌else◌};
 ghost use Rattle.store.specs.Layout.{tables_offset, edges_offset, total, header, limits_in};

@@ -1,4 +1,6 @@
 // Holds of shapes: which shapes a call may name, one hold more, one hold less.
+#![tactic(auto)]
+
 ghost use Rattle.std.specs.Prelude.{◌≡◌, not, leb, length};
 ghost use Rattle.store.specs.Model.{shape_at};
 ghost use Rattle.store.specs.Layout.{parse};

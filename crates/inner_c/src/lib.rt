@@ -1,6 +1,8 @@
 // Three calls without the test of the image, for C, so that `bench/` can measure them beside the
 // same rules written in C. For nothing else: whoever calls them has to hold a sound image, and C
 // cannot prove that it does.
+#![tactic(auto)]
+
 ghost use Rattle.std.specs.Prelude.{◌≡◌, true};
 ghost use Rattle.rules.specs.Sound.{sound};
 ghost use Rattle.rules.specs.Calls.{insert_key, sweep, ask, lookup, call_on};

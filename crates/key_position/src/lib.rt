@@ -1,5 +1,7 @@
 // Where a key stands among the first entries of a table. Shapes share a table, and a shape's own keys are the
 // first of it. This is the one scan for a key.
+#![tactic(auto)]
+
 ghost use Rattle.std.specs.Prelude.{◌≡◌, true, ◌≤◌, length, take};
 ghost use Rattle.store.specs.Model.{table_at, entries_of};
 ghost use Rattle.store.specs.Layout.{parse};
@@ -11,7 +13,7 @@ ghost use Rattle.key_position.specs.declared.OptionalPosition.TheVariants.{At};
 use slot::KeyPosition;
 use store::image::get_entry;
 
-#[derive(Drop)]
+#[derive(Clone, Copy)]
 pub enum OptionalPosition {
     At(KeyPosition),
     Nothing,

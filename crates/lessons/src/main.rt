@@ -1,6 +1,8 @@
 // Document 01's lesson sheet through the public calls. A line of the output is to be read beside the document's: the
 // action, and the shape that the steps lead to, with its keys in the order of the key list, each with its attributes
 // and its slot index. Then the refusals that no short step file meets.
+#![tactic(auto)]
+
 use replies::{
     ReplyNumbers, done_numbers, keys_numbers, lookup_numbers, question_numbers, shape_numbers,
 };

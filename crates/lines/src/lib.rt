@@ -1,4 +1,6 @@
 // Document 01, "The step runner": one line of its input read, and the four numbers of its answer written.
+#![tactic(auto)]
+
 ghost use Rattle.std.specs.Prelude.{◌≡◌, [], ◌∷◌};
 ghost use Rattle.std.proofs.Math.Option.{some};
 ghost use Rattle.rules.specs.Runner.{formed, line_call};
@@ -10,27 +12,27 @@ pub mod reading;
 pub mod writing;
 
 // A key of a shape, and its new attributes.
-#[derive(Drop)]
+#[derive(Clone, Copy)]
 pub struct KeyChange {
     pub shape: u32,
     pub key: u32,
     pub attributes: u32,
 }
 
-#[derive(Drop)]
+#[derive(Clone, Copy)]
 pub struct KeyOf {
     pub shape: u32,
     pub key: u32,
 }
 
-#[derive(Drop)]
+#[derive(Clone, Copy)]
 pub struct NewPrototype {
     pub shape: u32,
     pub to: u32,
 }
 
 // What a line asks for.
-#[derive(Drop)]
+#[derive(Clone, Copy)]
 pub enum Command {
     Root,
     Unique,

@@ -11,20 +11,20 @@ const SPACE: u8 = b' ';
 const BOUND: u64 = 1 << 32;
 
 // A number, and the position after it.
-#[derive(Drop)]
+#[derive(Clone, Copy)]
 pub struct NumberAt {
     pub value: u32,
     pub end: usize,
 }
 
-#[derive(Drop)]
+#[derive(Clone, Copy)]
 pub enum NumberRead {
     Reads(NumberAt),
     Bad,
 }
 
 // No line has more than three.
-#[derive(Drop)]
+#[derive(Clone, Copy)]
 pub enum Numbers {
     Zero,
     One(u32),

@@ -1,5 +1,7 @@
 // The manual's lessons (lessons/join): a line that begins with `#` names the next lesson, starts a
 // new image and is echoed; every other line is answered as the step runner answers it.
+#![tactic(auto)]
+
 ghost use Rattle.std.specs.Prelude.{◌≡◌, ◌≤◌, length};
 ghost use Rattle.store.specs.Layout.{words, parse};
 ghost use Rattle.stepping.specs.Answering.{Ready};

@@ -1,4 +1,6 @@
 // The plan of a list of steps, found before a word is written: which refusal they meet.
+#![tactic(auto)]
+
 ghost use Rattle.std.specs.Prelude.{◌≡◌, true, ◌+◌, ◌≤◌, eqb, length, drop};
 ghost use Rattle.store.specs.Model.{shape_at};
 ghost use Rattle.store.specs.Layout.{parse};
@@ -19,14 +21,14 @@ mod along;
 mod budget;
 
 // How many steps have a live edge, one after the other, and where they end.
-#[derive(Drop)]
+#[derive(Clone, Copy)]
 pub struct Way {
     pub found: usize,
     pub place: u32,
 }
 
 // What the steps from a shape may use up.
-#[derive(Drop)]
+#[derive(Clone, Copy)]
 pub struct Room {
     // K less the shape's keys
     pub keys: u32,
@@ -38,13 +40,13 @@ pub struct Room {
     pub whole: bool,
 }
 
-#[derive(Drop)]
+#[derive(Clone, Copy)]
 pub enum Spending {
     Left(Room),
     Refused(Refusal),
 }
 
-#[derive(Drop)]
+#[derive(Clone, Copy)]
 pub enum Planned {
     // no refusal; along live edges the steps get as far as this
     Passes(Way),

@@ -1,4 +1,6 @@
 // A table of properties in the lent image: keys in order, each with its slot.
+#![tactic(auto)]
+
 ghost use Rattle.std.specs.Prelude.{◌≡◌, true, false, ◌++◌, ◌+◌, ◌-◌, ◌≤◌, ◌<◌, length, take, drop};
 ghost use Rattle.slot.specs.Attributes.{most_stored};
 ghost use Rattle.store.specs.Model.{shape_at, table_at, put_table, free_table, free, used};
@@ -22,13 +24,13 @@ use store::Entry;
 use store::image::{append_entry, entry_count, get_entry, get_shape, set_entry, start_table};
 
 // Where a key stands, and where its value is stored: positions and slots are counted apart.
-#[derive(Drop)]
+#[derive(Clone, Copy)]
 pub struct Property {
     pub position: KeyPosition,
     pub slot: Slot,
 }
 
-#[derive(Drop)]
+#[derive(Clone, Copy)]
 pub enum OptionalProperty {
     At(Property),
     Nothing,

@@ -1,4 +1,6 @@
 // Questions of a held shape: no word of the image is written.
+#![tactic(auto)]
+
 ghost use Rattle.store.specs.Layout.{parse};
 ghost use Rattle.store.specs.Image.{Formed};
 ghost use Rattle.rules.specs.Calls.{ask, lookup, keys_into, prototype_of, is_shared, transitions_of, properties_of};

@@ -1,4 +1,6 @@
 // A step file on standard input, read block by block.
+#![tactic(auto)]
+
 ghost use Rattle.std.specs.Prelude.{◌≡◌, ◌≤◌, length};
 ghost use Rattle.slot.specs.If.{if◌then◌else◌};
 ghost use Rattle.stepping.specs.Answering.{Ready};

@@ -1,4 +1,6 @@
 // "Each line is answered by four numbers", and so is each call from C: which they are.
+#![tactic(auto)]
+
 ghost use Rattle.std.specs.Prelude.{◌≡◌, [], ◌∷◌};
 ghost use Rattle.rules.specs.Refusals.{refusal_number};
 ghost use Rattle.rules.specs.Runner.{action_number, four_numbers};
@@ -12,7 +14,7 @@ use rules::{
 
 // "refusal or 0, shape, action .., transition count"; other calls have other numbers after the refusal.
 #[repr(C)]
-#[derive(Drop)]
+#[derive(Clone, Copy)]
 pub struct ReplyNumbers {
     pub refusal: u32,
     pub first: u32,

@@ -1,4 +1,6 @@
 // The walk back before a held key, and the steps that a removal and a change of width take from the base.
+#![tactic(auto)]
+
 ghost use Rattle.std.specs.Prelude.{◌≡◌, true, ◌∷◌, ◌++◌, ◌≤◌, length, drop};
 ghost use Rattle.store.specs.Layout.{parse};
 ghost use Rattle.store.specs.Lists.{any};
@@ -20,14 +22,14 @@ use store::image::{get_entry, get_shape};
 use store::{Entry, Shape, StepKind};
 
 // The newest prototype step that the walk has passed.
-#[derive(Drop)]
+#[derive(Clone, Copy)]
 enum OptionalPrototype {
     At(u32),
     Nothing,
 }
 
 // What the walk back has found; the yielded keys stand in the lent words from row `start` on.
-#[derive(Drop)]
+#[derive(Clone, Copy)]
 struct Back {
     base: u32,
     newest: OptionalPrototype,
@@ -35,7 +37,7 @@ struct Back {
 }
 
 // The steps to take from the base stand in the lent words from row `start` on.
-#[derive(Drop)]
+#[derive(Clone, Copy)]
 pub struct Replay {
     pub base: u32,
     pub start: usize,

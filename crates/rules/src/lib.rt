@@ -1,5 +1,7 @@
 // The names that document 01 gives its refusals, and shape/mod.rs its actions; and what calls answer.
 // Code and definitions share them.
+#![tactic(auto)]
+
 ghost use Rattle.std.specs.Prelude.{◌≡◌};
 ghost use Rattle.rules.specs.Numbers.{good_key};
 
@@ -14,7 +16,7 @@ pub fn good_key(key: u32) -> bool
     key / ONE_KIND < 3
 }
 
-#[derive(Drop)]
+#[derive(Clone, Copy)]
 pub enum Refusal {
     Damaged,
     BadKey,
@@ -32,7 +34,7 @@ pub enum Refusal {
 }
 
 // What a change of attributes asks of the object's storage.
-#[derive(Drop)]
+#[derive(Clone, Copy)]
 pub enum ChangeTransitionAction {
     Nothing,
     Remove,
@@ -40,7 +42,7 @@ pub enum ChangeTransitionAction {
 }
 
 // One step of a trail: document 01's step kind, the key or the prototype, and the attributes.
-#[derive(Drop)]
+#[derive(Clone, Copy)]
 pub struct StepRecord {
     // a StepKind
     pub kind: u32,
@@ -50,14 +52,14 @@ pub struct StepRecord {
 }
 
 // What a rule gives in the lent image: the place of a shape, or a refusal.
-#[derive(Drop)]
+#[derive(Clone, Copy)]
 pub enum Placement {
     At(u32),
     Refused(Refusal),
 }
 
 // A shape that a call gives, with one hold more.
-#[derive(Drop)]
+#[derive(Clone, Copy)]
 pub struct GivenShape {
     pub shape: u32,
     pub action: ChangeTransitionAction,
@@ -65,44 +67,44 @@ pub struct GivenShape {
 }
 
 // How many shapes and tables a sweep has freed.
-#[derive(Drop)]
+#[derive(Clone, Copy)]
 pub struct FreedPlaces {
     pub shapes: u32,
     pub tables: u32,
 }
 
-#[derive(Drop)]
+#[derive(Clone, Copy)]
 pub enum ShapeReply {
     Gives(GivenShape),
     Refused(Refusal),
 }
 
-#[derive(Drop)]
+#[derive(Clone, Copy)]
 pub enum DoneReply {
     Succeeds,
     Refused(Refusal),
 }
 
-#[derive(Drop)]
+#[derive(Clone, Copy)]
 pub enum SweepReply {
     Frees(FreedPlaces),
     Refused(Refusal),
 }
 
-#[derive(Drop)]
+#[derive(Clone, Copy)]
 pub enum LookupReply {
     Finds(Slot),
     FindsNothing,
     Refused(Refusal),
 }
 
-#[derive(Drop)]
+#[derive(Clone, Copy)]
 pub enum KeysReply {
     Lists(u32),
     Refused(Refusal),
 }
 
-#[derive(Drop)]
+#[derive(Clone, Copy)]
 pub enum NumberReply {
     Is(u32),
     Refused(Refusal),

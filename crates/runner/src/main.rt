@@ -1,4 +1,6 @@
 // Document 01, "The step runner": answers the lines of standard input.
+#![tactic(auto)]
+
 ghost use Rattle.std.specs.Prelude.{◌≡◌, length};
 ghost use Rattle.runner.specs.Whole.{Whole};
 

@@ -1,5 +1,7 @@
 // The calls that change a shape, in either state, and new shapes. Each tests in document 01's order all that it
 // may refuse, before a word is written.
+#![tactic(auto)]
+
 ghost use Rattle.std.specs.Prelude.{◌≡◌, false};
 ghost use Rattle.store.specs.Model.{shape_at};
 ghost use Rattle.store.specs.Layout.{parse};

@@ -1,5 +1,7 @@
 // The public calls: any image, any number, any list. Each tests the image first, and then refuses in document
 // 01's order; a refusal leaves every lent word as it was.
+#![tactic(auto)]
+
 ghost use Rattle.rules.specs.Calls.{new_root, new_unique, insert_key, change_key, remove_key, change_prototype};
 ghost use Rattle.rules.specs.Calls.{hold, release, previous, sweep, ask, lookup, keys_into, prototype_of};
 ghost use Rattle.rules.specs.Calls.{is_shared, transitions_of, properties_of};

@@ -1,4 +1,6 @@
 // The public calls for C: a lent slice is a pointer and a count of words, and each answer four numbers.
+#![tactic(auto)]
+
 ghost use Rattle.std.specs.Prelude.{◌≡◌};
 ghost use Rattle.rules.specs.Calls.{new_root, new_unique, insert_key, change_key, remove_key, change_prototype};
 ghost use Rattle.rules.specs.Calls.{hold, release, previous, sweep, ask, lookup, keys_into, prototype_of};

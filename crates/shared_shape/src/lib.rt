@@ -1,4 +1,6 @@
 // Shared shapes: each change is a list of steps, planned before a word is written; and the limit.
+#![tactic(auto)]
+
 ghost use Rattle.std.specs.Prelude.{◌≡◌, true, false, ◌≤◌, ◌<◌, length, drop};
 ghost use Rattle.slot.specs.Attributes.{most_stored, same_width};
 ghost use Rattle.store.specs.Layout.{parse};

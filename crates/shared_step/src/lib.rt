@@ -1,5 +1,7 @@
 // Steps from a shared shape: each gives the child that is there, or makes one.
 // Whether there is room was found out before, so that nothing here is refused.
+#![tactic(auto)]
+
 ghost use Rattle.std.specs.Prelude.{◌≡◌, ◌≤◌, drop};
 ghost use Rattle.store.specs.Layout.{parse};
 ghost use Rattle.store.specs.Image.{Formed};

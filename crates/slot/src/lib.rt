@@ -1,4 +1,6 @@
 // The attribute byte of a property, and the slot that says where its value is stored.
+#![tactic(auto)]
+
 ghost use Rattle.std.specs.Prelude.{◌≡◌, ◌+◌, ◌<◌, ◌^◌, T};
 ghost use Rattle.slot.specs.Attributes.{
   present,
@@ -12,7 +14,7 @@ ghost use Rattle.slot.specs.Attributes.{
 ghost use Rattle.slot.specs.Slots.{one_bit, slot_of, next_index};
 
 // Counts storage places. It and a position are two types, so that no sum and no test takes one for the other.
-#[derive(Drop)]
+#[derive(Clone, Copy)]
 pub struct SlotIndex(pub u32);
 
 impl SlotIndex {
@@ -26,10 +28,10 @@ impl SlotIndex {
 }
 
 // Counts keys.
-#[derive(Drop)]
+#[derive(Clone, Copy)]
 pub struct KeyPosition(pub u32);
 
-#[derive(Drop)]
+#[derive(Clone, Copy)]
 pub struct SlotAttributes(pub u8);
 
 impl SlotAttributes {
@@ -143,14 +145,14 @@ impl SlotAttributes {
 }
 
 // Where a property's value is stored, and its attributes.
-#[derive(Drop)]
+#[derive(Clone, Copy)]
 pub struct Slot {
     pub index: SlotIndex,
     pub attributes: SlotAttributes,
 }
 
 // A key may have no slot, and the first key has none before it.
-#[derive(Drop)]
+#[derive(Clone, Copy)]
 pub enum OptionalSlot {
     At(Slot),
     Nothing,

@@ -1,4 +1,6 @@
 // The part of the soundness test that reads each shape's and each edge's own fields.
+#![tactic(auto)]
+
 ghost use Rattle.std.specs.Prelude.{◌≡◌, true, [], ◌∷◌};
 ghost use Rattle.store.specs.Lists.{all};
 ghost use Rattle.store.specs.Layout.{parse};
@@ -22,7 +24,7 @@ mod zeros;
 pub use codes::edges_differ;
 
 // What is asked of each shape or of each edge.
-#[derive(Drop)]
+#[derive(Clone, Copy)]
 pub enum Sentence {
     ShapesInRange,
     EdgesInRange,

@@ -1,4 +1,6 @@
 // The part of the soundness test that reads tables.
+#![tactic(auto)]
+
 mod good;
 mod tidy;
 mod used;

@@ -9,7 +9,7 @@ use crate::{answer_line, bad_line};
 use lines::writing::write_reply;
 
 // How many bytes of a line that is not ended are kept, and how many bytes of answers are written.
-#[derive(Drop)]
+#[derive(Clone, Copy)]
 pub struct BlockEnd {
     pub begun: usize,
     pub written: usize,

@@ -1,5 +1,7 @@
 // Document 01, "The step runner": lines answered one after the other over one image. The image is known to be
 // sound, since it was formatted and every call keeps it so: no line tests it again.
+#![tactic(auto)]
+
 ghost use Rattle.std.specs.Prelude.{◌≡◌, length};
 ghost use Rattle.store.specs.Layout.{parse};
 ghost use Rattle.rules.specs.Runner.{line_call, bad_line};

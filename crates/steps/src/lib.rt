@@ -1,4 +1,6 @@
 // Steps to take one after the other, in lent words: a row of three words for each.
+#![tactic(auto)]
+
 ghost use Rattle.std.specs.Prelude.{◌≡◌, ◌+◌, ◌*◌, ◌<◌, ◌≤◌, length, get_or, set};
 ghost use Rattle.steps.specs.Records.{records, no_step, read_step, step_words};
 

@@ -1,5 +1,7 @@
 // The records of the lent image: a shape, an entry of a table, an edge.
 // They are the model's records too, so that code and definitions speak of the same things.
+#![tactic(auto)]
+
 use slot::SlotIndex;
 
 pub mod image;
@@ -7,7 +9,7 @@ mod records;
 pub mod rows;
 
 // Document 01's letters: S shapes, T tables, K keys per table, E edges.
-#[derive(Drop)]
+#[derive(Clone, Copy)]
 pub struct Limits {
     pub S: u32,
     pub T: u32,
@@ -16,7 +18,7 @@ pub struct Limits {
 }
 
 // How many edges of each kind were added since the last prune.
-#[derive(Drop)]
+#[derive(Clone, Copy)]
 pub struct Counters {
     pub property: u32,
     pub prototype: u32,
@@ -25,7 +27,7 @@ pub struct Counters {
 // A record's words are plain numbers. These three types have no values: they hold the names of such numbers.
 
 // "state (1 shared, 2 unique)"; a free record is zero.
-#[derive(Drop)]
+#[derive(Clone, Copy)]
 pub struct ShapeState {}
 
 impl ShapeState {
@@ -37,7 +39,7 @@ impl ShapeState {
 }
 
 // "step kind (0 insert, 1 configure, 2 prototype)"
-#[derive(Drop)]
+#[derive(Clone, Copy)]
 pub struct StepKind {}
 
 impl StepKind {
@@ -49,7 +51,7 @@ impl StepKind {
 }
 
 // "kind (0 property, 1 prototype)"
-#[derive(Drop)]
+#[derive(Clone, Copy)]
 pub struct EdgeKind {}
 
 impl EdgeKind {
@@ -58,7 +60,7 @@ impl EdgeKind {
     pub const PROTOTYPE: u32 = 1;
 }
 
-#[derive(Drop)]
+#[derive(Clone, Copy)]
 pub struct Shape {
     // a ShapeState
     pub state: u32,
@@ -74,14 +76,14 @@ pub struct Shape {
     pub counters: Counters,
 }
 
-#[derive(Drop)]
+#[derive(Clone, Copy)]
 pub struct Entry {
     pub key: u32,
     pub attributes: u32,
     pub slot: SlotIndex,
 }
 
-#[derive(Drop)]
+#[derive(Clone, Copy)]
 pub struct Edge {
     pub parent: u32,
     // an EdgeKind

@@ -1,4 +1,6 @@
 // Document 01, "Holds, sweeps, questions": a sweep of the lent image.
+#![tactic(auto)]
+
 ghost use Rattle.store.specs.Layout.{parse};
 ghost use Rattle.store.specs.Image.{Formed, Becomes};
 ghost use Rattle.rules.specs.Sweep.{swept};

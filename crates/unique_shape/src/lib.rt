@@ -1,5 +1,7 @@
 // A unique shape has a table of its own. Inserts and changes that move no slot are made in it; for all else a
 // new shape takes its place.
+#![tactic(auto)]
+
 ghost use Rattle.std.specs.Prelude.{◌≡◌, true, ◌≤◌, length};
 ghost use Rattle.slot.specs.Attributes.{most_stored};
 ghost use Rattle.store.specs.Model.{table_at, shape_at, put_shape, put_table, free, used};
@@ -24,14 +26,14 @@ use rules::{Placement, Refusal};
 use slot::{KeyPosition, SlotAttributes};
 use store::image::{empty_table, entry_count, get_shape, key_limit, put_shape};
 
-#[derive(Drop)]
+#[derive(Clone, Copy)]
 struct ChangedKey {
     pub position: KeyPosition,
     pub attributes: SlotAttributes,
 }
 
 // What the new shape takes of the old one's keys.
-#[derive(Drop)]
+#[derive(Clone, Copy)]
 enum KeyCopy {
     All,
     Without(KeyPosition),

@@ -5,7 +5,7 @@ use replies::{ReplyNumbers, done_numbers, shape_numbers, sweep_numbers};
 
 const BAD_LINE: u32 = 14;
 
-#[derive(Drop)]
+#[derive(Clone, Copy)]
 pub enum Answer {
     // A refusal, or the 0 of a release.
     Alone(u32),

@@ -1,4 +1,6 @@
 // The oracle's stored runs (vectors/README.md) through the public calls: the Rust's answers against this port's.
+#![tactic(auto)]
+
 ghost use Rattle.std.specs.Prelude.{◌≤◌, length};
 
 use crate::calls::{Answer, call, place_of, set_place};
@@ -17,7 +19,7 @@ mod numbers;
 const TOLD: u64 = 10;
 
 // What was read, and what of it agrees.
-#[derive(Drop)]
+#[derive(Clone, Copy)]
 pub struct Tally {
     // of the file, with that which is being read
     pub line: u64,
@@ -29,7 +31,7 @@ pub struct Tally {
 }
 
 // The run that is being replayed.
-#[derive(Drop)]
+#[derive(Clone, Copy)]
 pub struct Run {
     // words of its image
     pub total: usize,
@@ -39,7 +41,7 @@ pub struct Run {
     pub answer: Answer,
 }
 
-#[derive(Drop)]
+#[derive(Clone, Copy)]
 pub struct State {
     pub run: Run,
     pub tally: Tally,
@@ -199,7 +201,7 @@ fn take_line(image: &mut [u32], places: &mut [u32], line: &[u8], state: State) -
 }
 
 // How many bytes of the line that is being read, and of its run's first line, are kept; and what was done before.
-#[derive(Drop)]
+#[derive(Clone, Copy)]
 pub struct Feed {
     pub used: usize,
     pub title: usize,
