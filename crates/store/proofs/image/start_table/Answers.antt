@@ -1,0 +1,40 @@
+-- `store::image::start_table` meets its contract. Assumes nothing.
+use Rattle.store.specs.Tables.{started_becomes}
+use Rattle.store.specs.Image.{table_row}
+use mathlib.Core.Path.{refl}
+use native.Mathlib.Omega.{arith}
+use Rattle.store.proofs.image.start_table.Goals as goal
+
+pub row_at-at-requires : goal.row_at-at-requires
+row_at-at-requires c =
+    let pre = c.requires in
+    let tables = c.tables in
+    let table-width = c.table_width in
+    (pre.place.low, (table_row pre.formed tables.ensures table-width.ensures pre.place).inside)
+
+pub offset_bounds-image-at : goal.offset_bounds-image-at
+offset_bounds-image-at c =
+    let pre = c.requires in
+    let tables = c.tables in
+    let table-width = c.table_width in
+    omega (arith, (table_row pre.formed tables.ensures table-width.ensures pre.place).inside)
+
+pub bounds-image-at : goal.bounds-image-at
+bounds-image-at c =
+    let pre = c.requires in
+    let tables = c.tables in
+    let table-width = c.table_width in
+    omega (
+      arith,
+      (table_row pre.formed tables.ensures table-width.ensures pre.place).inside,
+      table-width.ensures,
+    )
+
+pub returns : goal.returns
+returns c =
+    let pre = c.requires in
+    let tables = c.tables in
+    let table-width = c.table_width in
+    let row_at = c.row_at-at in
+    started_becomes pre.formed pre.place tables.ensures table-width.ensures row_at.ensures refl
+    pre.t_value
