@@ -12,7 +12,7 @@ import re
 import subprocess
 import sys
 
-TOKEN = re.compile(r"(?<=[ (])\"[^\"\n]*\"(?=[ );\n])|[A-Za-z_μκλ][\w'₀-₉]*(?:[-→≡^<≤][\w'₀-₉]+)*")
+TOKEN = re.compile(r"(?<![\w\"])\"(?:[^\"\\\n]|\\.)*\"|[A-Za-z_μκλ][\w'₀-₉]*(?:[-→≡^<≤][\w'₀-₉]+)*")
 LIBRARY_WORDS = set("""
 length take drop set sets append replicate map and or not eqb leb ltb get_or suc zero one add sub mul div mod pow
 reverse filter cond min max cons nil ap subst

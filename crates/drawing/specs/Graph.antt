@@ -139,10 +139,10 @@ edge_text m n e = if free_edge e then [] else ends n e ++ step_text m e ++ bytes
 -- How all is drawn, and what stands under the picture.
 unfoldable pub opening : List ℕ
 opening =
-    bytes "digraph shapes {\nnodesep=0.5\nranksep=0.25\nfontname=\"Helvetica,Arial,sans_serif\"\n"
-    ++ bytes "node [shape=plain fontname=\"Helvetica,Arial,sans_serif\"]\n"
-    ++ bytes "edge [fontname=\"Helvetica,Arial,sans_serif\"]\n"
-    ++ bytes "label=\"\\l_a row is a storage place: slot index, key, attributes, what is stored.\\l"
+    bytes "digraph shapes {\nnodesep=0.5\nranksep=0.25\nfontname=\"Helvetica,Arial,sans-serif\"\n"
+    ++ bytes "node [shape=plain fontname=\"Helvetica,Arial,sans-serif\"]\n"
+    ++ bytes "edge [fontname=\"Helvetica,Arial,sans-serif\"]\n"
+    ++ bytes "label=\"\\lA row is a storage place: slot index, key, attributes, what is stored.\\l"
     ++ bytes "w writable, e enumerable, c configurable, g get, s set. A dashed edge is dead.\\l\"\n"
 
 unfoldable pub graph_text : Model → List ℕ

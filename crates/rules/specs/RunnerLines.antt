@@ -18,34 +18,34 @@ Run = List ℕ × List (List ℕ)
 
 -- "leading zeros allowed"
 abbrev zeros : Run
-zeros = (bytes "R\n_i 01 0001 007\n", four 0 1 0 0 ∷ four 0 2 0 1 ∷ [])
+zeros = (bytes "R\nI 01 0001 007\n", four 0 1 0 0 ∷ four 0 2 0 1 ∷ [])
 
 -- "single spaces": two, one at the end, one before the letter, a tab.
 abbrev spaces : Run
-spaces = (bytes "R\n_f  1\n_f 1 \n F 1\n_f\t1\n_f 1\n", four 0 1 0 0 ∷ bad ∷ bad ∷ bad ∷ bad ∷ four 0 0 0 0 ∷ [])
+spaces = (bytes "R\nF  1\nF 1 \n F 1\nF\t1\nF 1\n", four 0 1 0 0 ∷ bad ∷ bad ∷ bad ∷ bad ∷ four 0 0 0 0 ∷ [])
 
 -- No line at all, no such letter, a small letter, two letters, a letter without its space.
 abbrev letters : Run
-letters = (bytes "\n_x\nr\n_r_r\n_f1\n_r\n", bad ∷ bad ∷ bad ∷ bad ∷ bad ∷ four 0 1 0 0 ∷ [])
+letters = (bytes "\nX\nr\nRR\nF1\nR\n", bad ∷ bad ∷ bad ∷ bad ∷ bad ∷ four 0 1 0 0 ∷ [])
 
 -- Too many numbers and too few, for each letter.
 abbrev counts : List Run
 counts =
-    (bytes "R 1\n_u 1\n_i 1 1\n_i 1 1 7 7\n_c 1 1\n_c 1 1 7 7\n", replicate 6 bad)
-    ∷ (bytes "D 1\n_d 1 1 1\n_p 1\n_p 1 1 1\n_f\n_f 1 1\n_s 1\n", replicate 7 bad)
+    (bytes "R 1\nU 1\nI 1 1\nI 1 1 7 7\nC 1 1\nC 1 1 7 7\n", replicate 6 bad)
+    ∷ (bytes "D 1\nD 1 1 1\nP 1\nP 1 1 1\nF\nF 1 1\nS 1\n", replicate 7 bad)
     ∷ []
 
 -- No decimal: a sign, a letter, hexadecimal, the bytes before 0 and after 9.
 abbrev digits : Run
 digits = (
-  bytes "R\n_f +1\n_f -1\n_f 1a\n_f 0x1\n_f /\n_f :\n_f 1\n",
+  bytes "R\nF +1\nF -1\nF 1a\nF 0x1\nF /\nF :\nF 1\n",
   four 0 1 0 0 ∷ replicate 6 bad ++ four 0 0 0 0 ∷ [],
 )
 
 -- "numbers below 2^32"
 abbrev numbers : Run
 numbers = (
-  bytes "R\n_p 1 4294967296\n_p 1 4294967295\n_p 1 99999999999999999999\n",
+  bytes "R\nP 1 4294967296\nP 1 4294967295\nP 1 99999999999999999999\n",
   four 0 1 0 0 ∷ bad ∷ four 0 2 0 1 ∷ bad ∷ [],
 )
 
@@ -59,14 +59,14 @@ lengths = (
 
 -- A carriage return belongs to the line.
 abbrev returns : Run
-returns = (bytes "R\r\n_r\n", bad ∷ four 0 1 0 0 ∷ [])
+returns = (bytes "R\r\nR\n", bad ∷ four 0 1 0 0 ∷ [])
 
 -- "an unended last one too"
 abbrev unended : List Run
 unended =
     -- which, ended, would be good; after a good one
     (bytes "R", bad ∷ [])
-    ∷ (bytes "R\n_r", four 0 1 0 0 ∷ bad ∷ [])
+    ∷ (bytes "R\nR", four 0 1 0 0 ∷ bad ∷ [])
     -- no input; the end right after a line feed; an empty line before the end
     ∷ ([], [])
     ∷ (bytes "R\n", four 0 1 0 0 ∷ [])
@@ -76,7 +76,7 @@ unended =
 -- Every letter, and a refusal's number.
 abbrev every_letter : Run
 every_letter = (
-  bytes "U\n_i 1 1 7\n_c 1 1 14\n_d 2 1\n_p 3 9\n_f 4\n_f 4\n_s\n",
+  bytes "U\nI 1 1 7\nC 1 1 14\nD 2 1\nP 3 9\nF 4\nF 4\nS\n",
   four 0 1 0 0
       ∷ four 0 1 0 0
       ∷ four 0 2 2 0
