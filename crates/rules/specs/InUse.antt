@@ -11,7 +11,6 @@ use Rattle.std.proofs.Math.Dec.{eqb, leb}
 use Rattle.std.proofs.Math.ListN.{length}
 use Rattle.slot.specs.If.{if◌then◌else◌}
 use Rattle.slot.specs.Attributes.{most_stored, good_attributes}
-use Rattle.store.specs.Lists.{at}
 use Rattle.store.specs.Model.{free, used, Model, no_shape, no_edge, free_shape, free_table, free_edge}
 use Rattle.store.specs.Model.{shape_at, table_at, edge_at}
 use Rattle.store.specs.ListLaws.{and_both, or_then, every-place, every-numbered}
