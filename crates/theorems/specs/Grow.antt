@@ -6,7 +6,6 @@ use Rattle.std.proofs.lemmas.Bool.{false≢true}
 use Rattle.std.proofs.Math.Logic.{inl}
 use Rattle.std.proofs.Common.{inr, sym, ◌∙◌, ap, arith}
 use Rattle.std.proofs.Math.Seq.{take-length}
-use Rattle.store.specs.Lists.{at}
 use Rattle.store.specs.Model.{Table, free, used, Model, limits_of, no_shape, free_shape, free_table}
 use Rattle.store.specs.Model.{free_edge, shape_at, table_at, edge_at, put_shape, put_table}
 use Rattle.store.specs.PlaceLaws.{length-put, same?, AfterPut, here, elsewhere, after-put, put_here}

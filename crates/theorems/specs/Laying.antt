@@ -6,7 +6,7 @@ use Rattle.std.proofs.Math.Path.{refl, sym}
 use Rattle.std.proofs.lemmas.Bool.{not-true}
 use Rattle.std.proofs.Math.Seq.{take-append_seam}
 use Rattle.slot.specs.Attributes.{good_attributes}
-use Rattle.store.specs.Lists.{at, put}
+use Rattle.store.specs.Lists.{put}
 use Rattle.store.specs.Model.{Table, free, used, Model, no_shape, no_edge, free_shape, free_table, free_edge}
 use Rattle.store.specs.Model.{shape_at, table_at, put_shape, put_table, put_edge}
 use Rattle.store.specs.PlaceLaws.{length-put, at-inside, at_put_other, at_put_same}

@@ -6,7 +6,7 @@ use Rattle.std.proofs.Common.{inl, inr, arith}
 use Rattle.std.proofs.Math.Path.{refl}
 use borrow.Author.Tests.{eqb-true, eqb-false, eq-eqb, ne_eqb, leb-true, le-leb}
 use Rattle.std.proofs.Math.Dec.{leb}
-use Rattle.store.specs.Lists.{at, every, zeros}
+use Rattle.store.specs.Lists.{every, zeros}
 use Rattle.store.specs.Model.{free, used, Model, no_counters, no_shape, no_edge, free_shape, free_table, free_edge}
 use Rattle.store.specs.Model.{shape_at, table_at, edge_at}
 use Rattle.store.specs.Layout.{shape_words, room_for, fits}
