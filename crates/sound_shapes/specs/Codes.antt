@@ -1,9 +1,8 @@
 -- A code for each edge: edges have the same code exactly when they agree.
 -- Assumes nothing.
 use Rattle.std.specs.Prelude.{◌≡◌, refl, Bool, true, false, ◌&&◌, ◌||◌, not, List, [], ◌∷◌, ◌⊎◌, ◌≢◌, ℕ, zero, suc, ◌+◌, ◌*◌, ◌/◌, ◌≤◌, ◌<◌, eqb, length, get_or}
-use Rattle.std.proofs.Common.{sym, ap, ◌∙◌, true≢false, inl, inr, add-one, arith, eqb-true, eq-eqb, ne_eqb}
+use Rattle.std.proofs.Common.{sym, ap, ◌∙◌, true≢false, inl, inr, arith, eqb-true, eq-eqb, ne_eqb}
 use Rattle.std.proofs.Math.Nat.{mul-add-div_right, div-eq_of_lt}
-use Rattle.std.proofs.lemmas.Bool.{eqb-false}
 use Rattle.slot.specs.If.{if◌then◌else◌}
 use Rattle.slot.specs.Attributes.{most_stored}
 use Rattle.store.specs.Lists.{any, every, zeros}
@@ -12,7 +11,6 @@ use Rattle.store.specs.Scans.{edge-next}
 use Rattle.store.specs.PlaceLaws.{same?}
 use Rattle.store.specs.Layout.{shape_words, edge_words}
 use Rattle.store.specs.Model.{Model, no_edge, free_shape, free_edge, shape_at, edge_at}
-use Rattle.store.specs.declared.Entry.{Entry}
 use Rattle.store.specs.declared.Edge.{Edge}
 use Rattle.rules.specs.Shapes.{shared, entries}
 use Rattle.rules.specs.Steps.{alike}
