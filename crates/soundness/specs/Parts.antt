@@ -7,10 +7,10 @@ use Rattle.std.proofs.Math.Bool.{and_assoc, and_comm, and-true}
 use Rattle.store.specs.Lists.{all}
 use Rattle.store.specs.Model.{Model}
 use Rattle.store.specs.Layout.{parse, limits_in, good_limits, good_header, tidy_tables}
-use Rattle.store.specs.ListLaws.{Passed, ◌and◌, and_both, both-and, all-passed, passed-all}
+use Rattle.store.specs.ListLaws.{◌and◌, and_both, both-and, all-passed, passed-all}
 use Rattle.rules.specs.Sound.{in_range, table_in_use, free_zero, tables_good, tables_used, counts_fit, roots_zero}
 use Rattle.rules.specs.Sound.{children_linked, children_stepped, edges_differ, edges_good, transitions_limited}
-use Rattle.rules.specs.Sound.{holds_limited, uniques_zero, model_sentences, sound_model, word_sentences, sound_words}
+use Rattle.rules.specs.Sound.{holds_limited, uniques_zero, model_sentences, sound_model, sound_words}
 use Rattle.rules.specs.Sound.{sound}
 use Rattle.sound_shapes.specs.Tests.{TablesKnown}
 
