@@ -33,6 +33,11 @@ use Rattle.child_table.specs.Parents.{Parent}
 abbrev pub Ready : (ws : List ℕ) (n : ℕ) (t : Step) → Got Placed → Type 0
 Ready ws n t g = Formed ws × (Sound (parse ws) × (Legal (parse ws) n t × Passes g))
 
+-- What a contract's clauses say, one by one.
+pub ready_of : (ws : List ℕ) (n : ℕ) (t : Step) (g : Got Placed) → Formed ws → Sound (parse ws)
+    → Legal (parse ws) n t → Passes g → Ready ws n t g
+ready_of ws n t g formed sound legal passes = (formed, (sound, (legal, passes)))
+
 pub shape-place : {ws : List ℕ} {n : ℕ} {t : Step} {g : Got Placed} → Ready ws n t g
     → Place (length (parse ws).shapes) n
 shape-place {ws} {n} (f, (sound, (legal, passes))) =
