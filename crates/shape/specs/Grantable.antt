@@ -2,35 +2,26 @@
 -- Assumes nothing.
 use Rattle.std.proofs.Math.Bool.{true}
 use Rattle.std.specs.Prelude.{false, ◌&&◌, List, [], ◌∷◌, ◌≡◌, ℕ, ◌≤◌, leb, length}
-use Rattle.std.proofs.Common.{inl, inr, sym, ◌∙◌, arith, leb-false, le-leb}
+use Rattle.std.proofs.Common.{inl, inr, sym, arith, leb-false, le-leb}
 use Rattle.std.proofs.Math.Path.{refl, ap}
-use Rattle.slot.specs.If.{if◌then◌else◌}
 use Rattle.slot.specs.Attributes.{most_stored, same_width}
 use Rattle.store.specs.Model.{Model, shape_at}
-use Rattle.store.specs.Layout.{parse}
 use Rattle.store.specs.ListLaws.{Decided, either}
 use Rattle.store.specs.declared.Shape.{Shape}
 use Rattle.store.specs.declared.Entry.{Entry}
-use Rattle.rules.specs.declared.ChangeTransitionAction.{ChangeTransitionAction}
-use Rattle.rules.specs.declared.ChangeTransitionAction.TheVariants.{Nothing}
-use Rattle.rules.specs.declared.Refusal.{Refusal}
-use Rattle.rules.specs.declared.Refusal.TheVariants.{KeysFull, HoldsFull}
 use Rattle.rules.specs.Numbers.{good_key}
 use Rattle.rules.specs.Shapes.{has, attributes_in, without, laid, configured, unique, root_shape, unique_shape}
 use Rattle.rules.specs.Refusals.{Got, ok}
 use Rattle.rules.specs.Settled.{same_given}
 use Rattle.rules.specs.Steps.{Step, insert, configure, prototype, Placed, step, steps, rollback, fresh}
 use Rattle.rules.specs.Steps.{then_limit}
-use Rattle.rules.specs.Unique.{emptied, replaced, insert_unique, remove_unique, change_unique, prototype_unique}
+use Rattle.rules.specs.Unique.{emptied, replaced, remove_unique, change_unique, prototype_unique}
 use Rattle.rules.specs.Unique.{inserted, changed, removed, rebased}
-use Rattle.rules.specs.Placing.{Passes}
-use Rattle.rules.specs.Calls.{No, unheld, grant, then_grant}
-use Rattle.rules.specs.Replies.{Answers}
+use Rattle.rules.specs.Calls.{unheld}
 use Rattle.theorems.specs.Facts.{Used, Sound}
 use Rattle.theorems.specs.Child.{Legal}
 use Rattle.theorems.specs.Made.{SharedAt, entries_at}
-use Rattle.theorems.specs.Quiet.{holds_at, raw_holds}
-use Rattle.theorems.specs.Outcomes.{Outcome, by_insert, by_change, by_removal, by_prototype, removal_steps, change_steps}
+use Rattle.theorems.specs.Outcomes.{Outcome, by_insert, by_change, removal_steps, change_steps}
 use Rattle.theorems.specs.Changes.{MayAct, ChangesTo, may_act, root-gives, unique-gives, inserted-gives}
 use Rattle.theorems.specs.Changes.{changed-gives, removed-gives, rebased-gives}
 use Rattle.plan.specs.PlanRight.{LegalSteps}
@@ -39,7 +30,7 @@ use Rattle.shared_shape.specs.Transition.{one_step_is}
 use Rattle.shared_shape.specs.Replays.{removal_legal, removal_is, change_legal, change_is, configure_legal}
 use Rattle.shared_shape.specs.Replays.{configure_is}
 use Rattle.shape.specs.FullHolds.{holds_given, same_number}
-use Rattle.shape.specs.States.{insert_of_unique, change_of_unique, removal_of_unique}
+use Rattle.shape.specs.States.{change_of_unique, removal_of_unique}
 use Rattle.shape.specs.States.{prototype_of_unique, insert_of_shared, change_of_shared}
 use Rattle.shape.specs.States.{removal_of_shared, prototype_of_shared, is_shared_lem, insert_legal}
 use Rattle.shape.specs.States.{prototype_legal}

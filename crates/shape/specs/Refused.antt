@@ -2,7 +2,6 @@
 -- Assumes nothing.
 use Rattle.std.specs.Prelude.{Bool, true, false, ◌&&◌, not, List, [], ◌≡◌, ℕ, ◌≤◌, ◌<◌}
 use Rattle.std.proofs.Math.Path.{refl}
-use Rattle.std.proofs.Common.{ap}
 use borrow.Author.Tests.{lt-leb, le-leb, not-false}
 use Rattle.slot.specs.Attributes.{most_stored}
 use Rattle.store.specs.Model.{Model, shape_at}
