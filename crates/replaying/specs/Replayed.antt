@@ -41,6 +41,10 @@ pub record Replayed (image₀ image out₀ out : List ℕ) (begun : ℕ) : Type 
   pub begins : begun ≡ length (blocks_taken (start_in image₀) blocks).begun
   pub written : out ≡ blocks_written (start_in image₀) out₀ blocks
 
+-- The same where a read or a write fails: the image and `out` are what some blocks lead to.
+abbrev pub Stopped : (image₀ image out₀ out : List ℕ) → Type 0
+Stopped image₀ image out₀ out = (begun : ℕ) × Replayed image₀ image out₀ out begun
+
 -- ## What it means
 
 module _ {image₀ image out₀ out : List ℕ} {begun : ℕ} (r : Replayed image₀ image out₀ out begun) where
