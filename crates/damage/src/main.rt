@@ -3,9 +3,12 @@
 // document 01 alone.
 #![tactic(auto)]
 
+ghost use Rattle.std.specs.Prelude.{◌≤◌, length, IfOk};
+
 use header::format;
 use soundness::is_sound;
-use std::num::{wrapping_add_u32, wrapping_add_u64, wrapping_add_usize, wrapping_sub_u32};
+use std::io;
+use std::io::Read;
 use store::Limits;
 
 const VALUES: [u32; 18] = [
@@ -29,8 +32,8 @@ pub struct Reading {
 
 fn plus(a: Count, b: Count) -> Count {
     Count {
-        tried: wrapping_add_u64(a.tried, b.tried),
-        sound: wrapping_add_u64(a.sound, b.sound),
+        tried: a.tried.wrapping_add(b.tried),
+        sound: a.sound.wrapping_add(b.sound),
     }
 }
 
@@ -51,7 +54,7 @@ fn read_byte(words: &mut [u32], r: Reading, b: u8) -> Reading {
     let d = digit(b);
     if d < 10 {
         return Reading {
-            value: wrapping_add_u64(r.value % 4294967296 * 10, d),
+            value: (r.value % 4294967296 * 10).wrapping_add(d),
             inside: true,
             read: r.read,
         };
@@ -62,7 +65,7 @@ fn read_byte(words: &mut [u32], r: Reading, b: u8) -> Reading {
         return Reading {
             value: 0,
             inside: false,
-            read: wrapping_add_usize(at, 1),
+            read: at.wrapping_add(1),
         };
     }
     Reading {
@@ -115,11 +118,24 @@ fn change_by_one(image: &mut [u32], at: usize) -> Count {
         return Count { tried: 0, sound: 0 };
     }
     let old = image[at];
-    let up = change(image, at, wrapping_add_u32(old, 1));
-    plus(up, change(image, at, wrapping_sub_u32(old, 1)))
+    let up = change(image, at, old.wrapping_add(1));
+    plus(up, change(image, at, old.wrapping_sub(1)))
 }
 
-fn change_area(name: &[u8], image: &mut [u32], start: usize, end: usize) {
+fn print_count(rt: &impl Print, name: &[u8], count: Count) -> io::Result<()> {
+    let tried = count.tried;
+    let sound = count.sound;
+    rt.write_all(name)?;
+    println!(rt; "{tried} {sound}")
+}
+
+fn change_area(
+    rt: &impl Print,
+    name: &[u8],
+    image: &mut [u32],
+    start: usize,
+    end: usize,
+) -> io::Result<()> {
     let mut count = Count { tried: 0, sound: 0 };
     let mut at = start;
     while at < end {
@@ -127,11 +143,7 @@ fn change_area(name: &[u8], image: &mut [u32], start: usize, end: usize) {
         count = plus(count, change_by_one(image, at));
         at += 1;
     }
-    io::write_all(1, name);
-    io::print_decimal(1, count.tried);
-    io::write_all(1, b" ");
-    io::print_decimal(1, count.sound);
-    io::write_all(1, b"\n");
+    print_count(rt, name, count)
 }
 
 fn word_at(words: &[u32], at: usize) -> u32 {
@@ -147,17 +159,16 @@ fn put_records(words: &[u32], image: &mut [u32]) {
     }
 }
 
-fn try_changes(image: &mut [u32]) {
-    io::write_all(1, b"unchanged ");
-    io::print_decimal(1, number(is_sound(image)));
-    io::write_all(1, b"\n");
-    change_area(b"header ", image, 0, 8);
-    change_area(b"shapes ", image, 8, 168);
-    change_area(b"tables ", image, 168, 272);
-    change_area(b"edges ", image, 272, 352);
+fn try_changes(rt: &impl Print, image: &mut [u32]) -> io::Result<()> {
+    let unchanged = number(is_sound(image));
+    println!(rt; "unchanged {unchanged}")?;
+    change_area(rt, b"header ", image, 0, 8)?;
+    change_area(rt, b"shapes ", image, 8, 168)?;
+    change_area(rt, b"tables ", image, 168, 272)?;
+    change_area(rt, b"edges ", image, 272, 352)
 }
 
-fn run(text: &[u8], words: &mut [u32], image: &mut [u32]) {
+fn run(rt: &impl Print, text: &[u8], words: &mut [u32], image: &mut [u32]) -> io::Result<()> {
     read_words(text, words);
     format(
         image,
@@ -169,13 +180,29 @@ fn run(text: &[u8], words: &mut [u32], image: &mut [u32]) {
         },
     );
     put_records(words, image);
-    try_changes(image);
+    try_changes(rt, image)
 }
 
-fn main() {
-    let mut text = io::buffer();
-    let n = io::read_full(0, &mut text);
+// As much of the input as fits, and how long that is.
+fn read_text(rt: &impl Input, text: &mut [u8]) -> io::Result<usize>
+    ensures { IfOk result (λ n. n ≤ length text.new) }
+{
+    let mut input = rt.reader();
+    let mut at = 0;
+    for _ in 0..u64::MAX {
+        let n = input.read(&mut text[at..])?;
+        at += n;
+        if n == 0 || at == text.len() {
+            break;
+        }
+    }
+    Ok(at)
+}
+
+fn main(rt: HostRuntime) -> io::Result<()> {
+    let mut text = [0u8; 4096];
+    let n = read_text(&rt, &mut text)?;
     let mut words = [0u32; 352];
     let mut image = [0u32; 352];
-    run(&text[..n], &mut words, &mut image);
+    run(&rt, &text[..n], &mut words, &mut image)
 }
