@@ -5,7 +5,6 @@ use crate::calls::Answer;
 use crate::numbers::MOST_NUMBERS;
 use replies::{ReplyNumbers, keys_numbers, lookup_numbers, question_numbers};
 use rules::NumberReply;
-use std::num::wrapping_add_u32;
 
 // Before the entries: shared or unique, transition count, action, prototype, same as, number of entries.
 const BEFORE_ENTRIES: usize = 6;
@@ -45,7 +44,7 @@ fn entries_agree(image: &[u32], place: u32, entries: &[u32]) -> bool {
         if !entry_agrees(image, place, entries[at], entries[at + 1], index) {
             return false;
         }
-        lowest = wrapping_add_u32(index, 1);
+        lowest = index.wrapping_add(1);
         entry += 1;
     }
     true

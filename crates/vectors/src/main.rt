@@ -1,14 +1,15 @@
 // The oracle's stored runs (vectors/README.md) through the public calls: the Rust's answers against this port's.
 #![tactic(auto)]
 
-ghost use Rattle.std.specs.Prelude.{◌≤◌, length};
+ghost use Rattle.std.specs.Prelude.{◌≤◌, length, IfOk};
 
 use crate::calls::{Answer, call, place_of, set_place};
 use crate::compare::{answer_agrees, shape_agrees};
 use crate::numbers::{MOST_NUMBERS, read_numbers};
 use lines::{Command, read_line};
 use replies::{ReplyNumbers, done_numbers, question_numbers};
-use std::num::{wrapping_add_u32, wrapping_add_u64};
+use std::io;
+use std::io::Read;
 use store::Limits;
 
 mod calls;
@@ -48,7 +49,7 @@ pub struct State {
 }
 
 fn plus(n: u64, counts: bool) -> u64 {
-    if counts { wrapping_add_u64(n, 1) } else { n }
+    if counts { n.wrapping_add(1) } else { n }
 }
 
 // One difference more, if there is one.
@@ -133,7 +134,7 @@ fn with_handle(places: &mut [u32], run: Run, next: u32) -> Run {
 fn hear_answer(image: &[u32], places: &mut [u32], text: &[u8], run: Run, tally: Tally) -> State {
     let mut numbers = [0u32; MOST_NUMBERS];
     let n = read_numbers(text, &mut numbers);
-    let next = wrapping_add_u32(run.handles, 1);
+    let next = run.handles.wrapping_add(1);
     let answer = run.answer;
     let agrees = answer_agrees(image, places, next, answer, &numbers[0..n]);
     let mut now = differs_unless(tally, agrees);
@@ -227,86 +228,88 @@ fn keep_title(title: &mut [u8], line: &[u8], kept: usize) -> usize
     end
 }
 
-fn tell_difference(title: &[u8], before: Tally, after: Tally) {
+fn tell_difference(rt: &impl Print, title: &[u8], before: Tally, after: Tally) -> io::Result<()> {
     if after.differ == before.differ || before.differ >= TOLD {
-        return;
+        return Ok(());
     }
-    io::write_all(1, title);
-    io::write_all(1, b": line ");
-    io::print_decimal(1, after.line);
-    io::write_all(1, b" differs\n");
+    let line = after.line;
+    rt.write_all(title)?;
+    print!(rt; ": line {line} differs\n")
 }
 
 fn end_line(
+    rt: &impl Print,
     image: &mut [u32],
     places: &mut [u32],
     title: &mut [u8],
     line: &[u8],
     feed: Feed,
-) -> Feed {
+) -> io::Result<Feed> {
     let kept = keep_title(title, line, feed.title);
     let state = feed.state;
     let before = state.tally;
     let state = take_line(image, places, line, state);
     let after = state.tally;
-    tell_difference(&title[0..kept], before, after);
-    Feed {
+    tell_difference(rt, &title[0..kept], before, after)?;
+    Ok(Feed {
         used: 0,
         title: kept,
         state,
-    }
+    })
 }
 
 fn feed_byte(
+    rt: &impl Print,
     image: &mut [u32],
     places: &mut [u32],
     title: &mut [u8],
     line: &mut [u8],
     feed: Feed,
     byte: u8,
-) -> Feed {
+) -> io::Result<Feed> {
     let used = least(feed.used, line.len());
     if byte == b'\n' {
-        return end_line(image, places, title, &line[0..used], feed);
+        return end_line(rt, image, places, title, &line[0..used], feed);
     }
     if used == line.len() {
-        return feed;
+        return Ok(feed);
     }
     line[used] = byte;
     let mut now = feed;
     now.used = used + 1;
-    now
+    Ok(now)
 }
 
 fn feed_block(
+    rt: &impl Print,
     image: &mut [u32],
     places: &mut [u32],
     title: &mut [u8],
     line: &mut [u8],
     feed: Feed,
     block: &[u8],
-) -> Feed {
+) -> io::Result<Feed> {
     let mut now = feed;
     let mut at = 0;
     while at < block.len() {
         let byte = block[at];
         at += 1;
-        now = feed_byte(image, places, title, line, now, byte);
+        now = feed_byte(rt, image, places, title, line, now, byte)?;
     }
-    now
+    Ok(now)
 }
 
-fn print_count(n: u64, what: &[u8]) {
-    io::print_decimal(1, n);
-    io::write_all(1, what);
+fn print_count(rt: &impl Print, n: u64, what: &[u8]) -> io::Result<()> {
+    print!(rt; "{n}")?;
+    rt.write_all(what)
 }
 
-fn print_tally(tally: Tally) {
-    print_count(tally.runs, b" runs, ");
-    print_count(tally.inputs, b" lines of input: ");
-    print_count(tally.answers, b" answers and ");
-    print_count(tally.live, b" live shapes agree, ");
-    print_count(tally.differ, b" differ\n");
+fn print_tally(rt: &impl Print, tally: Tally) -> io::Result<()> {
+    print_count(rt, tally.runs, b" runs, ")?;
+    print_count(rt, tally.inputs, b" lines of input: ")?;
+    print_count(rt, tally.answers, b" answers and ")?;
+    print_count(rt, tally.live, b" live shapes agree, ")?;
+    print_count(rt, tally.differ, b" differ\n")
 }
 
 fn start() -> Feed {
@@ -331,30 +334,46 @@ fn start() -> Feed {
     }
 }
 
-fn main() {
+// Fills the buffer from standard input, as far as the input goes. Answers how many bytes were read.
+fn read_full(rt: &impl Input, buf: &mut [u8]) -> io::Result<usize>
+    ensures { IfOk result (λ n. n ≤ length buf.new) }
+{
+    let mut reader = rt.reader();
+    let mut at = 0;
+    for _ in 0..u64::MAX {
+        let n = reader.read(&mut buf[at..])?;
+        // The input has ended, or the buffer has no room.
+        if n == 0 {
+            break;
+        }
+        at += n;
+    }
+    Ok(at)
+}
+
+fn main(rt: HostRuntime) -> io::Result<()> {
     let mut image = [0u32; 19555];
     let mut places = [0u32; 1036];
     let mut title = [0u8; 96];
     let mut line = [0u8; 96];
-    let mut block = io::large_buffer();
+    let mut block = [0u8; 65536];
     let mut feed = start();
-    let mut turns = u64::MAX;
-    while turns > 0 {
-        let n = io::read_full(0, &mut block);
+    for _ in 0..u64::MAX {
+        let n = read_full(&rt, &mut block)?;
         if n == 0 {
             break;
         }
         feed = feed_block(
+            &rt,
             &mut image,
             &mut places,
             &mut title,
             &mut line,
             feed,
             &block[0..n],
-        );
-        turns -= 1;
+        )?;
     }
     let state = feed.state;
     let tally = state.tally;
-    print_tally(tally);
+    print_tally(&rt, tally)
 }

@@ -2,7 +2,6 @@
 ghost use Rattle.std.specs.Prelude.{◌≤◌, length};
 
 use lines::reading::{NumberRead, read_number};
-use std::num::wrapping_add_usize;
 
 // Room for the longest answer; what is cut off a longer one makes it differ.
 pub const MOST_NUMBERS: usize = 32;
@@ -22,7 +21,7 @@ pub fn read_numbers(text: &[u8], out: &mut [u32]) -> usize
         };
         out[count] = number.value;
         count += 1;
-        at = wrapping_add_usize(number.end, 1);
+        at = number.end.wrapping_add(1);
     }
     count
 }
