@@ -6,23 +6,25 @@ ghost use Rattle.stepping.specs.Answering.{Starts};
 
 use drawing::write_graph;
 use replaying::replay;
+use std::io;
+use std::io::{Input, Print};
 use stepping::format_image;
 
 // At most 5,200 bytes for each of 256 shapes, 121 for each of 256 edges, and 402 around them.
 const MOST: usize = 1362578;
 
-fn draw(image: &mut [u32], out: &mut [u8])
+fn draw(rt: &(impl Input + Print), image: &mut [u32], out: &mut [u8]) -> io::Result<()>
     requires starts { Starts image.old }
     requires out_len { length out.old ≡ 1362578 }
 {
-    replay(image, out, false);
+    replay(rt, image, out, false)?;
     let written = write_graph(out, image);
-    io::write_all(1, &out[..written]);
+    rt.write_all(&out[..written])
 }
 
-fn main() {
+fn main(rt: HostRuntime) -> io::Result<()> {
     let mut image = [0u32; 6952];
     format_image(&mut image);
     let mut out = [0u8; MOST];
-    draw(&mut image, &mut out);
+    draw(&rt, &mut image, &mut out)
 }
