@@ -5,7 +5,7 @@ use Rattle.std.proofs.Common.{sym, ◌∙◌, mod-lt, mul_comm, mul-le-mul, div-
 use Rattle.std.proofs.lemmas.Bool.{eqb-false}
 use Rattle.std.specs.Int.{w64}
 use Rattle.std.proofs.lemmas.List.{length-replicate}
-use Rattle.slot.specs.If.{if◌then◌else◌}
+use Rattle.std.specs.Prelude.{if◌then◌else◌}
 use Rattle.rules.specs.Sound.{distinct}
 use Rattle.distinct.specs.Distinct.{code, distinct-passes, twice_fails}
 

@@ -2,7 +2,7 @@
 -- Assumes nothing.
 use Rattle.std.specs.Prelude.{Bool, List, [], ◌∷◌, ◌++◌, ◌≡◌, refl, ℕ, suc, ◌+◌, ◌%◌, ◌^◌, eqb}
 use Prim.Native.String.{String}
-use Rattle.slot.specs.If.{if◌then◌else◌}
+use Rattle.std.specs.Prelude.{if◌then◌else◌}
 use Rattle.slot.specs.Attributes.{present, accessor}
 use Rattle.store.specs.Model.{Model, free_shape, free_edge, shape_at}
 use Rattle.store.specs.declared.Shape.{Shape}

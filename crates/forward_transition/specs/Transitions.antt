@@ -7,7 +7,7 @@ use Rattle.std.proofs.Math.Path.{refl}
 use borrow.Author.Tests.{eqb-true, eqb-false, eq-eqb, ne_eqb}
 use native.Mathlib.Omega.{arith}
 use Rattle.std.proofs.lemmas.List.{length-map}
-use Rattle.slot.specs.If.{if◌then◌else◌}
+use Rattle.std.specs.Prelude.{if◌then◌else◌}
 use Rattle.store.specs.Lists.{lowest}
 use Rattle.store.specs.Model.{Model, no_edge, edge_at, put_edge, shape_at}
 use Rattle.store.specs.Layout.{parse}

@@ -2,7 +2,7 @@
 -- the rule for a new shape gives by it.
 -- Assumes nothing.
 use Rattle.std.specs.Prelude.{Bool, true, false, List, ◌≢◌, ◌≡◌, refl, ℕ, eqb, length}
-use Rattle.slot.specs.If.{if◌then◌else◌}
+use Rattle.std.specs.Prelude.{if◌then◌else◌}
 use Rattle.store.specs.Lists.{lowest}
 use Rattle.store.specs.Model.{Table, Model, used, free, no_shape, free_shape, free_table, shape_at, table_at}
 use Rattle.store.specs.Model.{put_shape, put_table}

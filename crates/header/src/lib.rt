@@ -2,7 +2,7 @@
 #![tactic(auto)]
 
 ghost use Rattle.std.specs.Prelude.{◌≡◌, Bool, ◌&&◌, ◌++◌, ◌≤◌, length, drop};
-ghost use Rattle.slot.specs.If.{if◌then◌else◌};
+ghost use Rattle.std.specs.Prelude.{if◌then◌else◌};
 ghost use Rattle.store.specs.Layout.{tables_offset, edges_offset, total, header, limits_in};
 ghost use Rattle.store.specs.Layout.{within, good_limits, good_header, formattable, formatted};
 

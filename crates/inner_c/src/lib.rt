@@ -6,7 +6,7 @@
 ghost use Rattle.std.specs.Prelude.{◌≡◌, true};
 ghost use Rattle.rules.specs.Sound.{sound};
 ghost use Rattle.rules.specs.Calls.{insert_key, sweep, ask, lookup, call_on};
-ghost use Rattle.shapes_c.specs.Told.{Tells};
+ghost use Rattle.replies.specs.Told.{Tells};
 
 use replies::{ReplyNumbers, lookup_numbers, shape_numbers, sweep_numbers};
 

@@ -4,7 +4,7 @@ use Rattle.std.specs.Prelude.{Bool, true, false, List, [], ◌∷◌, ◌≢◌,
 use Rattle.std.proofs.lemmas.Bool.{false≢true}
 use Rattle.std.proofs.Common.{inl, inr, sym, ◌∙◌, ap, arith, eqb-true, eq-eqb, ne_eqb, get_or-take, length-take-le}
 use Rattle.std.proofs.Math.Option.{none, some}
-use Rattle.slot.specs.If.{if◌then◌else◌}
+use Rattle.std.specs.Prelude.{if◌then◌else◌}
 use Rattle.slot.specs.declared.KeyPosition.{KeyPosition}
 use Rattle.store.specs.Model.{no_entry}
 use Rattle.store.specs.ListLaws.{Decided, either, or-none}

@@ -4,7 +4,7 @@ use Rattle.std.specs.Prelude.{Bool, true, false, List, [], ◌∷◌, ◌≡◌,
 use Rattle.std.proofs.Math.Bool.{and-false}
 use Rattle.std.proofs.Common.{inl, inr, sym, ap, ◌∙◌, add-one, arith, lt-ltb, le-ltb, ne_eqb, eq-eqb, eqb-true, drop_of_length-le, drop-cons}
 use Rattle.std.proofs.Math.Option.{Option, none, some}
-use Rattle.slot.specs.If.{if◌then◌else◌}
+use Rattle.std.specs.Prelude.{if◌then◌else◌}
 use Rattle.store.specs.ListLaws.{Decided, either}
 use Rattle.rules.specs.Runner.{space, on_first, parts, both, numbers, formed, command, line_call}
 use Rattle.lines.specs.declared.Command.{Command}

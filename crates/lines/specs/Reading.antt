@@ -3,7 +3,7 @@
 use Rattle.std.specs.Prelude.{Bool, true, false, List, [], ◌∷◌, ◌≡◌, refl, ℕ, zero, suc, ◌+◌, ◌-◌, ◌*◌, ◌^◌, ◌≤◌, ◌<◌, eqb, leb, length, get_or, drop}
 use Rattle.std.proofs.Common.{true≢false, sym, ◌∙◌, add-one, arith, lt-ltb, le-ltb, leb-true, drop_of_length-le, drop-cons}
 use Rattle.std.proofs.Math.Option.{Option, none, some}
-use Rattle.slot.specs.If.{if◌then◌else◌}
+use Rattle.std.specs.Prelude.{if◌then◌else◌}
 use Rattle.store.specs.ListLaws.{and_both}
 use Rattle.store.specs.Layout.{within}
 use Rattle.rules.specs.Runner.{space, on_first, parts, decimal, below2^32, both, numbers}

@@ -2,7 +2,7 @@
 -- Assumes nothing.
 use Rattle.std.specs.Prelude.{Bool, true, false, List, [], ◌∷◌, ◌≡◌, refl, ℕ, eqb, length, get_or, take}
 use Rattle.std.proofs.Common.{sym, ◌∙◌, arith, take_all}
-use Rattle.slot.specs.If.{if◌then◌else◌}
+use Rattle.std.specs.Prelude.{if◌then◌else◌}
 use Rattle.store.specs.Model.{Model, blank}
 use Rattle.store.specs.Layout.{words, parse}
 use Rattle.store.specs.Image.{Becomes}

@@ -4,7 +4,7 @@ use Rattle.std.specs.Prelude.{Bool, true, false, ◌||◌, List, [], ◌∷◌, 
 use Rattle.std.proofs.Common.{inl, inr, sym, ap, ◌∙◌, add-zero, zero-add, add-one, arith, eqb-true, ne_eqb, length-drop}
 use Rattle.std.proofs.Math.Option.{Option, none, some}
 use Rattle.std.proofs.lemmas.List.{length-map}
-use Rattle.slot.specs.If.{if◌then◌else◌}
+use Rattle.std.specs.Prelude.{if◌then◌else◌}
 use Rattle.store.specs.Lists.{first}
 use Rattle.store.specs.Model.{Model, shape_at}
 use Rattle.store.specs.ListLaws.{Decided, either, length-keep}

@@ -3,7 +3,7 @@
 use Rattle.std.specs.Prelude.{Bool, true, false, ◌&&◌, List, [], ◌∷◌, ◌≢◌, ◌≡◌, refl, ℕ, suc, ◌+◌, ◌-◌, ◌≤◌, eqb, length, drop}
 use Rattle.std.proofs.Common.{inl, inr, ap, add-one, arith}
 use borrow.Author.Tests.{eqb-false, eqb-true, eq-eqb, ne_eqb}
-use Rattle.slot.specs.If.{if◌then◌else◌}
+use Rattle.std.specs.Prelude.{if◌then◌else◌}
 use Rattle.store.specs.Lists.{keep}
 use Rattle.store.specs.Model.{Model, free_shape, free_table, free_edge, shape_at, table_at, entries_of}
 use Rattle.store.specs.ListLaws.{Decided, either}

@@ -6,7 +6,7 @@ use Rattle.std.proofs.Common.{inl, inr, sym, ◌∙◌, add-zero, take_all, leng
 use Rattle.std.proofs.Math.Path.{refl, ap}
 use native.Mathlib.Omega.{arith}
 use borrow.Author.Tests.{eqb-true, eqb-false, eq-eqb, ne_eqb, not-true}
-use Rattle.slot.specs.If.{if◌then◌else◌}
+use Rattle.std.specs.Prelude.{if◌then◌else◌}
 use Rattle.store.specs.Lists.{at, put}
 use Rattle.store.specs.Model.{Table, free, used, Model, no_counters, no_shape, no_edge, free_shape, free_table}
 use Rattle.store.specs.Model.{free_edge, shape_at, table_at, edge_at, entries_of, put_shape, put_table, put_edge}

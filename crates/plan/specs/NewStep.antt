@@ -6,7 +6,7 @@ use Rattle.std.proofs.Common.{inl, inr, sym, ne_eqb, arith}
 use Rattle.std.proofs.Math.Option.{Option, none, some}
 use Rattle.std.proofs.Math.Path.{refl}
 use Rattle.std.proofs.Math.Dec.{eqb}
-use Rattle.slot.specs.If.{if◌then◌else◌}
+use Rattle.std.specs.Prelude.{if◌then◌else◌}
 use Rattle.store.specs.Model.{Model, no_shape, no_edge, free_shape, free_edge, shape_at, table_at, edge_at, put_shape}
 use Rattle.store.specs.PlaceLaws.{at_put_same, first-none}
 use Rattle.store.specs.Image.{Place}

@@ -2,7 +2,7 @@
 -- Assumes nothing.
 use Rattle.std.specs.Prelude.{Bool, true, false, ◌&&◌, ◌||◌, not, List, [], ◌∷◌, ℕ, suc, ◌+◌, ◌-◌, eqb, ltb, leb, length, drop}
 use Rattle.std.proofs.Math.Option.{Option, none, some}
-use Rattle.slot.specs.If.{if◌then◌else◌}
+use Rattle.std.specs.Prelude.{if◌then◌else◌}
 use Rattle.store.specs.Lists.{keep, first}
 use Rattle.store.specs.Model.{Model, free_shape, free_table, free_edge, shape_at}
 use Rattle.store.specs.declared.Shape.{Shape}

@@ -3,7 +3,7 @@
 use Rattle.std.specs.Prelude.{Bool, true, false, List, [], ◌∷◌, ◌++◌, ◌≢◌, ◌≡◌, refl, ℕ, zero, suc, ◌+◌, ◌-◌, ◌*◌, ◌≤◌, ◌<◌, length, get_or, take}
 use Rattle.std.proofs.Common.{append_assoc, append-nil, sym, ◌∙◌, ap, not-suc-le-zero, le_of_suc-le-suc, add_assoc, add-zero, zero-add, arith, leb-true, le-leb}
 use Rattle.std.proofs.Math.Seq.{take-length}
-use Rattle.slot.specs.If.{if◌then◌else◌}
+use Rattle.std.specs.Prelude.{if◌then◌else◌}
 use Rattle.slot.specs.Attributes.{most_stored, good_attributes, accessor, width}
 use Rattle.slot.specs.Slots.{slot_of, next_index}
 use Rattle.slot.specs.declared.Slot.{Slot}

@@ -4,7 +4,7 @@ use Rattle.std.specs.Prelude.{Bool, true, false, List, [], ◌∷◌, ◌++◌, 
 use Rattle.std.proofs.Math.Path.{refl}
 use Rattle.std.proofs.Common.{sym, ap, ap₂, ◌∙◌, arith, le-leb, length-take-le, take_at}
 use Rattle.std.proofs.lemmas.List.Edits.{sets}
-use Rattle.slot.specs.If.{if◌then◌else◌}
+use Rattle.std.specs.Prelude.{if◌then◌else◌}
 use Rattle.store.specs.Lists.{every}
 use Rattle.store.specs.ListLaws.{both-and, every_append}
 use Rattle.store.specs.Layout.{within, words, parse}

@@ -2,7 +2,7 @@
 #![tactic(auto)]
 
 ghost use Rattle.std.specs.Prelude.{◌≡◌, ◌≤◌, length, IfOk};
-ghost use Rattle.slot.specs.If.{if◌then◌else◌};
+ghost use Rattle.std.specs.Prelude.{if◌then◌else◌};
 ghost use Rattle.stepping.specs.Answering.{Ready};
 ghost use Rattle.replaying.specs.Replayed.{Replayed, Printable, Stopped};
 

@@ -3,7 +3,7 @@
 -- Assumes nothing.
 use Rattle.std.specs.Prelude.{Bool, true, false, List, [], ◌∷◌, ◌++◌, map, ◌≡◌, refl, ℕ, ◌+◌, ◌-◌, ◌*◌, set, take}
 use Prim.Native.String.{String}
-use Rattle.slot.specs.If.{if◌then◌else◌}
+use Rattle.std.specs.Prelude.{if◌then◌else◌}
 use Rattle.store.specs.Layout.{flat, rows, words, parse, formatted}
 use Rattle.store.specs.Model.{blank}
 use Rattle.store.specs.declared.Limits.{Limits}

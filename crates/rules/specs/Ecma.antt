@@ -2,7 +2,7 @@
 -- without its index part. Written from that document, and from no program.
 -- Assumes nothing.
 use Rattle.std.specs.Prelude.{Bool, not, List, [], ◌∷◌, ◌++◌, map, ℕ, eqb}
-use Rattle.slot.specs.If.{if◌then◌else◌}
+use Rattle.std.specs.Prelude.{if◌then◌else◌}
 use Rattle.store.specs.Lists.{keep}
 use Rattle.rules.specs.Numbers.{kind_of}
 

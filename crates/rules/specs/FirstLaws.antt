@@ -4,7 +4,7 @@ use Rattle.std.specs.Prelude.{Bool, true, false, List, ◌↔◌, ◌⊎◌, ◌
 use Rattle.std.proofs.Math.Bool.{and-false}
 use Rattle.std.proofs.Common.{inl, inr, sym, ◌∙◌, ap, not-suc-le-zero, le_of_suc-le-suc, arith, one-add, ne_eqb}
 use Rattle.std.proofs.Math.Dec.{eqb-suc-zero}
-use Rattle.slot.specs.If.{if◌then◌else◌}
+use Rattle.std.specs.Prelude.{if◌then◌else◌}
 use Rattle.store.specs.Lists.{at, lowest}
 use Rattle.store.specs.Model.{Model, no_edge}
 use Rattle.store.specs.Layout.{words, parse, laid_out}

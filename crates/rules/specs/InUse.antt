@@ -9,7 +9,7 @@ use native.Mathlib.Omega.{arith}
 use borrow.Author.Tests.{eqb-true, leb-true, not-true}
 use Rattle.std.proofs.Math.Dec.{eqb, leb}
 use Rattle.std.proofs.Math.ListN.{length}
-use Rattle.slot.specs.If.{if◌then◌else◌}
+use Rattle.std.specs.Prelude.{if◌then◌else◌}
 use Rattle.slot.specs.Attributes.{most_stored, good_attributes}
 use Rattle.store.specs.Model.{free, used, Model, no_shape, no_edge, free_shape, free_table, free_edge}
 use Rattle.store.specs.Model.{shape_at, table_at, edge_at}

@@ -2,7 +2,7 @@
 -- Assumes nothing.
 use Rattle.std.specs.Prelude.{Bool, true, false, ◌&&◌, List, [], ◌∷◌, ℕ, ◌+◌, ◌-◌, ◌*◌, ◌^◌, eqb, ltb, length, get_or}
 use Rattle.std.proofs.Math.Option.{Option, none, some}
-use Rattle.slot.specs.If.{if◌then◌else◌}
+use Rattle.std.specs.Prelude.{if◌then◌else◌}
 use Rattle.store.specs.Lists.{first, agree}
 use Rattle.store.specs.Model.{Model}
 use Rattle.store.specs.declared.Limits.{Limits}

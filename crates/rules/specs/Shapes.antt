@@ -1,7 +1,7 @@
 -- What the rules say of entries and of shapes: the words in which they are written.
 -- Assumes nothing.
 use Rattle.std.specs.Prelude.{Bool, ◌&&◌, not, List, [], ◌∷◌, ◌++◌, map, ℕ, ◌+◌, eqb, take}
-use Rattle.slot.specs.If.{if◌then◌else◌}
+use Rattle.std.specs.Prelude.{if◌then◌else◌}
 use Rattle.slot.specs.Attributes.{width}
 use Rattle.store.specs.Lists.{keep, any}
 use Rattle.store.specs.Model.{Model, table_at, entries_of, no_counters}

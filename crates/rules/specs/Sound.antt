@@ -1,7 +1,7 @@
 -- Document 01: "Sound means all of this", sentence by sentence and in its order.
 -- Assumes nothing.
 use Rattle.std.specs.Prelude.{Bool, true, ◌&&◌, ◌||◌, not, List, [], ◌∷◌, map, ℕ, ◌+◌, eqb, ltb, leb, length}
-use Rattle.slot.specs.If.{if◌then◌else◌}
+use Rattle.std.specs.Prelude.{if◌then◌else◌}
 use Rattle.slot.specs.Attributes.{good_attributes, width, same_width}
 use Rattle.store.specs.Lists.{numbered, keep, every, any, only_one, all, agree, zeros}
 use Rattle.store.specs.Model.{Table, free, used, Model, free_shape, free_table, free_edge, shape_at, table_at}

@@ -2,7 +2,7 @@
 -- Assumes nothing.
 use Rattle.std.specs.Prelude.{Bool, not, List, [], ◌++◌, map, ℕ, eqb, length}
 use Rattle.std.proofs.Math.Option.{Option}
-use Rattle.slot.specs.If.{if◌then◌else◌}
+use Rattle.std.specs.Prelude.{if◌then◌else◌}
 use Rattle.store.specs.Lists.{numbered, keep, any, first}
 use Rattle.store.specs.Model.{Table, free, Model, no_shape, no_edge}
 use Rattle.store.specs.Layout.{flat}

@@ -1,7 +1,7 @@
 -- Document 01, "Unique shapes"; and each change of a shape in either state.
 -- Assumes nothing.
 use Rattle.std.specs.Prelude.{List, [], ℕ, ◌+◌, eqb, length}
-use Rattle.slot.specs.If.{if◌then◌else◌}
+use Rattle.std.specs.Prelude.{if◌then◌else◌}
 use Rattle.slot.specs.Attributes.{same_width}
 use Rattle.store.specs.Model.{Model, used, shape_at, put_shape, put_table}
 use Rattle.store.specs.declared.Entry.{Entry}

@@ -2,7 +2,7 @@
 -- Assumes nothing.
 use Rattle.std.specs.Prelude.{true, false, List, ◌≡◌, refl, ℕ, ◌≤◌, eqb, leb}
 use Rattle.std.proofs.Common.{inl, inr, sym, ap, ◌∙◌, le-leb}
-use Rattle.slot.specs.If.{if◌then◌else◌}
+use Rattle.std.specs.Prelude.{if◌then◌else◌}
 use Rattle.slot.specs.Attributes.{most_stored, same_width}
 use Rattle.store.specs.Model.{Model, shape_at}
 use Rattle.store.specs.Layout.{parse}

@@ -15,7 +15,7 @@ use denote.Triple.Spec.{exits}
 use Rattle.replies.specs.declared.ReplyNumbers.{ReplyNumbers}
 use Rattle.rules.specs.Calls.{insert_key, change_key, remove_key, change_prototype, ask, lookup, keys_into, call_on}
 use Rattle.rules.specs.Calls.{format}
-use Rattle.shapes_c.specs.Told.{Tells, limits_are, listed_in}
+use Rattle.replies.specs.Told.{Tells, limits_are, listed_in}
 use Rattle.shapes_c.specs.contracts.shapes_format as c-format
 use Rattle.shapes_c.specs.contracts.shapes_insert as c_insert
 use Rattle.shapes_c.specs.contracts.shapes_change as c-change

@@ -5,7 +5,7 @@ ghost use Rattle.std.specs.Prelude.{◌≡◌};
 ghost use Rattle.rules.specs.Calls.{new_root, new_unique, insert_key, change_key, remove_key, change_prototype};
 ghost use Rattle.rules.specs.Calls.{hold, release, previous, sweep, ask, lookup, keys_into, prototype_of};
 ghost use Rattle.rules.specs.Calls.{is_shared, transitions_of, properties_of, call_on, format};
-ghost use Rattle.shapes_c.specs.Told.{Tells, limits_are, tested, listed_in};
+ghost use Rattle.replies.specs.Told.{Tells, limits_are, tested, listed_in};
 
 use replies::{
     ReplyNumbers, done_numbers, keys_numbers, lookup_numbers, question_numbers, shape_numbers,

@@ -3,7 +3,7 @@
 -- Assumes nothing.
 use Rattle.std.specs.Prelude.{Bool, ◌&&◌, ◌||◌, not, ℕ, ◌/◌, ◌%◌, eqb, leb}
 use Rattle.std.specs.Int.Bits.{bit_and, bit_or}
-use Rattle.slot.specs.If.{if◌then◌else◌}
+use Rattle.std.specs.Prelude.{if◌then◌else◌}
 
 -- "Attributes: WRITABLE 1, ENUMERABLE 2, CONFIGURABLE 4, GET 8, SET 16;
 -- cache bits PROTOTYPE 32, FOUND 64, NOT_CACHEABLE 128."

@@ -3,7 +3,7 @@
 -- Assumes nothing.
 use Rattle.std.specs.Prelude.{Bool, true, ◌&&◌, ◌||◌, ◌≡◌, refl, ℕ, zero, suc, ◌+◌, ◌*◌, eqb}
 use Rattle.std.specs.Bool.{beq}
-use Rattle.slot.specs.If.{if◌then◌else◌}
+use Rattle.std.specs.Prelude.{if◌then◌else◌}
 use Rattle.slot.specs.Attributes.{present, good_attributes, accessor, width, merged}
 use Rattle.slot.specs.Attributes.{not_cacheable_if_prototype, cacheable}
 

@@ -1,4 +1,3 @@
-pub mod If
 pub mod Attributes
 pub mod Slots
 pub mod Bytes

@@ -5,7 +5,7 @@ use Rattle.std.proofs.Common.{sym, ◌∙◌, arith, get_or-take}
 use Rattle.std.proofs.Math.Bool.{true, not, and-true, and-false}
 use borrow.Author.Tests.{eqb-true, eqb-false, eq-eqb, ne_eqb, leb-true, le-leb, lt-leb, not-true}
 use Rattle.std.proofs.Math.Dec.{eqb}
-use Rattle.slot.specs.If.{if◌then◌else◌}
+use Rattle.std.specs.Prelude.{if◌then◌else◌}
 use Rattle.slot.specs.Attributes.{most_stored, good_attributes, same_width}
 use Rattle.slot.specs.declared.KeyPosition.{KeyPosition}
 use Rattle.store.specs.Lists.{at, keep, every}

@@ -1,7 +1,7 @@
 -- The sentences of soundness about a shape's and an edge's own fields, each as a test of one record.
 -- Assumes nothing.
 use Rattle.std.specs.Prelude.{◌≡◌, refl, Bool, true, false, ◌&&◌, ◌||◌, not, List, [], ◌∷◌, map, ◌≢◌, ℕ, ◌+◌, eqb, ltb, leb, length}
-use Rattle.slot.specs.If.{if◌then◌else◌}
+use Rattle.std.specs.Prelude.{if◌then◌else◌}
 use Rattle.slot.specs.Attributes.{good_attributes, same_width}
 use Rattle.store.specs.Lists.{every, all, zeros}
 use Rattle.store.specs.Scans.{Scan, every_scan, shape-next, edge-next}

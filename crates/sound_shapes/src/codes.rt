@@ -1,6 +1,6 @@
 // Whether no two edges agree: each edge has a code, and edges that differ have codes that differ.
 ghost use Rattle.std.specs.Prelude.{◌≡◌, true, ◌≤◌, length, take};
-ghost use Rattle.slot.specs.If.{if◌then◌else◌};
+ghost use Rattle.std.specs.Prelude.{if◌then◌else◌};
 ghost use Rattle.store.specs.Model.{free_edge};
 ghost use Rattle.store.specs.Layout.{parse};
 ghost use Rattle.store.specs.Image.{Formed};

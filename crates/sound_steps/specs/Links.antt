@@ -4,7 +4,7 @@ use Rattle.std.specs.Prelude.{◌≡◌, refl, Bool, true, false, ◌||◌, ◌�
 use Rattle.std.proofs.Common.{sym, ap, ◌∙◌, inl, inr, add-one, arith, ne_eqb, eq-eqb, length-set, take-suc, take_all, get_or-set_same, get_or-set_other}
 use mathlib.Core.List.{List, [], ◌∷◌, ◌++◌, append-nil}
 use Rattle.std.proofs.lemmas.List.{length-replicate}
-use Rattle.slot.specs.If.{if◌then◌else◌}
+use Rattle.std.specs.Prelude.{if◌then◌else◌}
 use Rattle.store.specs.Lists.{at, keep, only_one}
 use Rattle.store.specs.ListLaws.{keep_append, not-both}
 use Rattle.store.specs.PlaceLaws.{same?}

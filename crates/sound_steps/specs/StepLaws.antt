@@ -5,7 +5,7 @@ use Rattle.std.proofs.Common.{sym, ap, ◌∙◌, inl, inr, not-suc-le-zero, le_
 use Rattle.std.proofs.Math.Bool.{and-true, and-false, and_assoc, and_comm, or-true}
 use Rattle.std.proofs.lemmas.Bool.{false≢true, not-true}
 use Rattle.std.proofs.lemmas.List.{length-map}
-use Rattle.slot.specs.If.{if◌then◌else◌}
+use Rattle.std.specs.Prelude.{if◌then◌else◌}
 use Rattle.slot.specs.Attributes.{present, accessor, width}
 use Rattle.store.specs.Lists.{every, any, agree}
 use Rattle.store.specs.ListLaws.{and_both, not-both, agree_self, eqb_sym}

@@ -6,7 +6,7 @@ use Rattle.std.proofs.Math.Bool.{and-true, and-false, and_assoc}
 use Rattle.std.proofs.lemmas.List.{length-map}
 use Rattle.std.proofs.Math.ListN.{get_or-map}
 use Rattle.std.proofs.Math.Seq.{drop-length}
-use Rattle.slot.specs.If.{if◌then◌else◌}
+use Rattle.std.specs.Prelude.{if◌then◌else◌}
 use Rattle.slot.specs.Attributes.{most_stored, good_attributes, accessor, width}
 use Rattle.store.specs.Lists.{every}
 use Rattle.store.specs.ListLaws.{and_both}

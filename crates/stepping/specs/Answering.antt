@@ -5,7 +5,7 @@ use Rattle.std.proofs.Math.Option.{Option, none, some}
 use Rattle.std.proofs.Common.{sym, ◌∙◌, arith, eq-eqb}
 use Rattle.std.proofs.Math.Path.{ap}
 use Rattle.std.proofs.lemmas.List.{length-replicate}
-use Rattle.slot.specs.If.{if◌then◌else◌}
+use Rattle.std.specs.Prelude.{if◌then◌else◌}
 use Rattle.store.specs.Model.{Model, free, no_shape, no_edge, blank}
 use Rattle.store.specs.Layout.{parse, formattable, formatted}
 use Rattle.store.specs.ThereAndBack.{blank-words, fits-blank}

@@ -9,7 +9,7 @@ use Rattle.std.proofs.Math.Path.{refl, ap}
 use borrow.Author.Tests.{lt-ltb, ltb-true, ltb-false, ne_eqb, eqb-true, eqb-false}
 use Rattle.std.proofs.lemmas.List.{take-append-le}
 use Rattle.std.proofs.Math.Seq.{append_snoc}
-use Rattle.slot.specs.If.{if◌then◌else◌}
+use Rattle.std.specs.Prelude.{if◌then◌else◌}
 use Rattle.store.specs.Model.{Model}
 use Rattle.store.specs.Layout.{parse}
 use Rattle.store.specs.ListLaws.{Decided, either}

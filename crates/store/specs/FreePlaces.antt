@@ -5,7 +5,7 @@ use Rattle.std.specs.Prelude.{◌≡◌, Bool, true, false, List, [], ◌∷◌,
 use Rattle.std.proofs.Math.Path.{refl}
 use Rattle.std.proofs.Common.{sym, ap, ◌∙◌, mul-zero, not-suc-le-zero, le_of_suc-le-suc, arith, ne_eqb, length-drop, length-take-le, drop-drop}
 use borrow.Rule.Slice.PartMut.{mid_of}
-use Rattle.slot.specs.If.{if◌then◌else◌}
+use Rattle.std.specs.Prelude.{if◌then◌else◌}
 use Rattle.store.specs.Lists.{lowest, keep}
 use Rattle.store.specs.Model.{limits_of, free_shape, free_table, free_edge}
 use Rattle.store.specs.Layout.{rows, read_shape, read_table, read_entries, read_edge, table_width, total}

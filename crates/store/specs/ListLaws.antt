@@ -4,7 +4,7 @@ use Rattle.std.specs.Prelude.{◌≡◌, refl, Bool, true, false, ◌&&◌, ◌|
 use Rattle.std.proofs.Common.{sym, ◌∙◌, ap, ap₂, true≢false, inl, inr, not-suc-le-zero, add-zero, add-suc, suc-add, one-add, arith, eqb-true, eq-eqb, ne_eqb, length-append}
 use Rattle.std.proofs.Math.Bool.{or_assoc}
 use Rattle.std.proofs.lemmas.Bool.{false≢true, eqb-false}
-use Rattle.slot.specs.If.{if◌then◌else◌}
+use Rattle.std.specs.Prelude.{if◌then◌else◌}
 use Rattle.store.specs.Lists.{at, put, numbered, keep, every, any, last, all, agree, zeros}
 use Rattle.store.specs.Layout.{flat}
 use Rattle.store.specs.PlaceLaws.{at_tail}

@@ -2,7 +2,7 @@
 -- Assumes nothing.
 use Rattle.std.specs.Prelude.{Bool, true, false, ◌&&◌, ◌||◌, List, [], ◌∷◌, ℕ, zero, suc, eqb, get_or, set}
 use Rattle.std.proofs.Math.Option.{Option, none, some}
-use Rattle.slot.specs.If.{if◌then◌else◌}
+use Rattle.std.specs.Prelude.{if◌then◌else◌}
 
 module _ {A : Type 0} where
   -- "Places are numbered from 1": the record at a place, d at place 0 and past the end.

@@ -6,7 +6,7 @@ use Rattle.std.proofs.Common.{true≢false, inl, inr, sym, ◌∙◌, ap, not-su
 use Rattle.std.proofs.Math.Option.{none, some}
 use Rattle.std.proofs.lemmas.Bool.{eqb-false}
 use Rattle.std.proofs.lemmas.List.{set_comm, set-get_or}
-use Rattle.slot.specs.If.{if◌then◌else◌}
+use Rattle.std.specs.Prelude.{if◌then◌else◌}
 use Rattle.store.specs.Lists.{at, put, numbered, lowest, first}
 
 -- ## A record at a place, and one put there

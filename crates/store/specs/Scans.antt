@@ -6,7 +6,7 @@ use Rattle.std.proofs.Common.{sym, ap, ◌∙◌, arith, drop-cons}
 use Rattle.std.proofs.Math.Option.{Option, some}
 use Rattle.std.proofs.Math.Numerals.{add-one}
 use Rattle.std.proofs.Math.Seq.{drop-length}
-use Rattle.slot.specs.If.{if◌then◌else◌}
+use Rattle.std.specs.Prelude.{if◌then◌else◌}
 use Rattle.store.specs.Model.{Model, free, no_shape, no_edge, shape_at, table_at, edge_at}
 use Rattle.store.specs.Lists.{numbered, lowest, keep, every, any, first}
 

@@ -1,7 +1,7 @@
 // Records of one width that follow each other in the lent image: where each lies.
 ghost use Rattle.std.specs.Prelude.{◌≡◌, [], ◌+◌, ◌*◌, ◌≤◌, ◌<◌, length, get_or, drop, replicate};
 ghost use borrow.Rule.Slice.PartMut.{mid_of};
-ghost use Rattle.slot.specs.If.{if◌then◌else◌};
+ghost use Rattle.std.specs.Prelude.{if◌then◌else◌};
 ghost use Rattle.store.specs.Lists.{lowest, keep};
 ghost use Rattle.store.specs.Layout.{rows};
 ghost use Rattle.store.specs.FreePlaces.{Area, unused};

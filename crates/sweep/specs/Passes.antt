@@ -3,7 +3,7 @@
 use Rattle.std.specs.Prelude.{Bool, true, false, List, map, ◌≡◌, refl, ℕ, suc, ◌+◌, length, get_or}
 use Rattle.std.proofs.Common.{◌∙◌, add-one}
 use Rattle.std.proofs.lemmas.List.{length-map}
-use Rattle.slot.specs.If.{if◌then◌else◌}
+use Rattle.std.specs.Prelude.{if◌then◌else◌}
 use Rattle.store.specs.Lists.{numbered}
 use Rattle.store.specs.Model.{no_edge}
 use Rattle.store.specs.PlaceLaws.{at_map, at-map-numbered, length-numbered}

@@ -1,6 +1,6 @@
 // The passes of a sweep, one each over the shapes, the tables and the edges.
 ghost use Rattle.std.specs.Prelude.{◌≡◌, false, map, ℕ, ◌<◌, ◌≤◌, length};
-ghost use Rattle.slot.specs.If.{if◌then◌else◌};
+ghost use Rattle.std.specs.Prelude.{if◌then◌else◌};
 ghost use Rattle.store.specs.Lists.{any};
 ghost use Rattle.store.specs.Model.{shape_at, table_at, edge_at, put_shape, put_table, put_edge};
 ghost use Rattle.store.specs.Model.{no_shape, free};

@@ -4,7 +4,7 @@ use Rattle.std.specs.Prelude.{true, false, not, List, [], ◌++◌, ◌≢◌, �
 use Rattle.std.proofs.Common.{inl, inr, sym, ◌∙◌, ap, arith, eqb-true}
 use Rattle.std.proofs.Math.Path.{refl}
 use Rattle.std.proofs.lemmas.Bool.{eqb-false, not-true, not-false}
-use Rattle.slot.specs.If.{if◌then◌else◌}
+use Rattle.std.specs.Prelude.{if◌then◌else◌}
 use Rattle.slot.specs.Attributes.{good_attributes, same_width}
 use Rattle.store.specs.Model.{Model, free_shape, shape_at}
 use Rattle.store.specs.ListLaws.{both-and, or-none, Decided, either, not-both}

@@ -4,7 +4,7 @@
 use Rattle.std.specs.Prelude.{Bool, true, false, not, List, [], ◌∷◌, ◌++◌, map, ◌≢◌, ◌≡◌, refl, ℕ, eqb}
 use Rattle.std.proofs.lemmas.List.{map-append}
 use Rattle.std.proofs.Common.{sym, ◌∙◌, ap, ap₂, eqb-true}
-use Rattle.slot.specs.If.{if◌then◌else◌}
+use Rattle.std.specs.Prelude.{if◌then◌else◌}
 use Rattle.store.specs.Lists.{keep}
 use Rattle.store.specs.Model.{Model}
 use Rattle.store.specs.ListLaws.{keep-map}

@@ -3,7 +3,7 @@
 -- Assumes nothing.
 use Rattle.std.specs.Prelude.{true, false, ◌&&◌, List, [], ◌∷◌, ◌⊎◌, ◌≢◌, ◌≡◌, refl, ℕ, eqb, ltb, length}
 use Rattle.std.proofs.Common.{inl, inr, sym, ◌∙◌, ap, arith, eqb-true, eq-eqb, ne_eqb}
-use Rattle.slot.specs.If.{if◌then◌else◌}
+use Rattle.std.specs.Prelude.{if◌then◌else◌}
 use Rattle.store.specs.Model.{Model, shape_at}
 use Rattle.store.specs.Layout.{parse}
 use Rattle.store.specs.PlaceLaws.{same?}

@@ -6,7 +6,7 @@ use Rattle.std.proofs.Common.{inl, inr, arith}
 use Rattle.std.proofs.Math.Path.{refl}
 use borrow.Author.Tests.{eqb-true, eqb-false, eq-eqb, le-leb, ltb-false}
 use Rattle.std.proofs.Math.Dec.{eqb, leb}
-use Rattle.slot.specs.If.{if◌then◌else◌}
+use Rattle.std.specs.Prelude.{if◌then◌else◌}
 use Rattle.store.specs.Model.{Table, free, used, Model, no_shape, no_edge, free_shape, free_table, free_edge}
 use Rattle.store.specs.Model.{shape_at, table_at, edge_at}
 use Rattle.store.specs.Layout.{room_for, fits}

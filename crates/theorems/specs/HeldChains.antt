@@ -6,7 +6,7 @@ use Rattle.std.proofs.lemmas.Bool.{false≢true}
 use mathlib.Core.List.{List, [], map}
 use Rattle.std.proofs.Common.{inl, inr, sym, ◌∙◌, arith, eqb-true, eq-eqb, ne_eqb}
 use Rattle.std.proofs.Math.Path.{ap}
-use Rattle.slot.specs.If.{if◌then◌else◌}
+use Rattle.std.specs.Prelude.{if◌then◌else◌}
 use Rattle.store.specs.Lists.{at, any, numbered}
 use Rattle.store.specs.Model.{Model, free, no_shape, free_shape, free_table, shape_at, table_at, edge_at}
 use Rattle.store.specs.PlaceLaws.{same?, at-map-numbered}

@@ -5,7 +5,7 @@ use Rattle.std.proofs.lemmas.Bool.{false≢true, not-true}
 use Rattle.std.proofs.Common.{append-nil, inl, inr, sym, ◌∙◌, ap, ap₂, eqb-true, eq-eqb}
 use Rattle.std.proofs.lemmas.List.{map-append}
 use Rattle.std.proofs.Math.Seq.{append_snoc}
-use Rattle.slot.specs.If.{if◌then◌else◌}
+use Rattle.std.specs.Prelude.{if◌then◌else◌}
 use Rattle.store.specs.Lists.{keep, every, any}
 use Rattle.store.specs.ListLaws.{and_both, or_then, then_or, or-none, any_append, keep_append, keep-map}
 use Rattle.store.specs.ListLaws.{Decided, either, not-both, eqb_sym}

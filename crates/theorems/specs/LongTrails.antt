@@ -9,7 +9,7 @@ use Rattle.std.proofs.Math.Option.{Option, none, some}
 use Rattle.std.proofs.Math.Path.{refl, ap}
 use borrow.Author.Tests.{leb-true, leb-false, lt-leb, eq-eqb, ne_eqb}
 use Rattle.std.proofs.lemmas.List.{length-replicate}
-use Rattle.slot.specs.If.{if◌then◌else◌}
+use Rattle.std.specs.Prelude.{if◌then◌else◌}
 use Rattle.store.specs.Lists.{at, put, first}
 use Rattle.store.specs.Model.{Model, no_shape, no_edge, free, free_shape, free_table, free_edge, blank, shape_at}
 use Rattle.store.specs.Model.{edge_at, table_at, put_shape, put_table, put_edge, used, Table}

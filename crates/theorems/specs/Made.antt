@@ -4,7 +4,7 @@
 use Rattle.std.specs.Prelude.{Bool, true, false, ◌&&◌, List, [], ◌∷◌, ◌≡◌, refl, ℕ, suc, ◌+◌, ◌≤◌, eqb, length}
 use Rattle.std.proofs.Common.{inl, inr, sym, ◌∙◌, ap, ap₂, arith, eqb-true, ne_eqb, length-take-le}
 use Rattle.std.proofs.lemmas.Bool.{eqb-false, not-true}
-use Rattle.slot.specs.If.{if◌then◌else◌}
+use Rattle.std.specs.Prelude.{if◌then◌else◌}
 use Rattle.slot.specs.Attributes.{good_attributes, width}
 use Rattle.store.specs.Model.{Model, free_edge, shape_at, table_at, edge_at}
 use Rattle.store.specs.ListLaws.{and_both, both-and, Decided, either}

@@ -1,7 +1,7 @@
 -- What each change of a shape leads to, as document 01 says it.
 -- Assumes nothing.
 use Rattle.std.specs.Prelude.{Bool, true, false, not, List, [], ◌∷◌, ◌++◌, ℕ}
-use Rattle.slot.specs.If.{if◌then◌else◌}
+use Rattle.std.specs.Prelude.{if◌then◌else◌}
 use Rattle.slot.specs.Attributes.{same_width}
 use Rattle.store.specs.Model.{Model, shape_at}
 use Rattle.store.specs.declared.Entry.{Entry}

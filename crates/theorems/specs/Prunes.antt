@@ -5,7 +5,7 @@ use Rattle.std.proofs.Math.Logic.{inl}
 use Rattle.std.proofs.Common.{inr, sym, ◌∙◌, arith}
 use Prim.Native.Nat.{ℕ, ◌+◌, ◌≤◌}
 use Rattle.std.proofs.lemmas.Bool.{eqb-false}
-use Rattle.slot.specs.If.{if◌then◌else◌}
+use Rattle.std.specs.Prelude.{if◌then◌else◌}
 use Rattle.std.proofs.lemmas.List.{length-map}
 use Rattle.store.specs.Model.{no_edge, put_shape, Model, shape_at, table_at, edge_at}
 use Rattle.store.specs.ListLaws.{Decided, not-both, either}

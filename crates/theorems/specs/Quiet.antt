@@ -4,7 +4,7 @@ use Rattle.std.specs.Prelude.{true, ◌&&◌, not, List, [], ◌∷◌, ◌++◌
 use Rattle.std.proofs.Common.{inl, inr, ◌∙◌, ap, arith, eq-eqb, ne_eqb}
 use Rattle.std.proofs.Math.Option.{Option, none, some}
 use Rattle.std.proofs.Math.Path.{refl, sym}
-use Rattle.slot.specs.If.{if◌then◌else◌}
+use Rattle.std.specs.Prelude.{if◌then◌else◌}
 use Rattle.slot.specs.Attributes.{same_width}
 use Rattle.store.specs.Lists.{at, put, first}
 use Rattle.store.specs.Model.{Table, Model, no_shape, free_shape, free_table, free_edge, shape_at, put_shape, put_table}

@@ -10,7 +10,7 @@ use Rattle.std.proofs.Math.Logic.{inl}
 use Rattle.std.proofs.Common.{inr, ◌∙◌, ap, arith, eqb-true, eq-eqb, length-append}
 use Rattle.std.proofs.Math.Path.{refl, sym}
 use Rattle.std.proofs.Math.Seq.{append_snoc}
-use Rattle.slot.specs.If.{if◌then◌else◌}
+use Rattle.std.specs.Prelude.{if◌then◌else◌}
 use Rattle.slot.specs.Attributes.{good_attributes}
 use Rattle.store.specs.Lists.{every, any, last}
 use Rattle.store.specs.Model.{Model, no_entry, shape_at}

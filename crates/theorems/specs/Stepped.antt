@@ -4,7 +4,7 @@ use Rattle.std.specs.Prelude.{Bool, true, false, List, ◌≢◌, ◌≡◌, ref
 use Rattle.std.proofs.Common.{inl, inr, sym, ◌∙◌, ap, arith, eqb-true, eq-eqb, ne_eqb}
 use Rattle.std.proofs.Math.Option.{some}
 use Rattle.std.proofs.lemmas.Bool.{eqb-false, not-true}
-use Rattle.slot.specs.If.{if◌then◌else◌}
+use Rattle.std.specs.Prelude.{if◌then◌else◌}
 use Rattle.store.specs.Model.{Model, no_edge, free_edge, shape_at, edge_at}
 use Rattle.store.specs.PlaceLaws.{at-inside, FirstOrNone, first_or_none, first_found, first-none}
 use Rattle.store.specs.ListLaws.{and_both, both-and, Decided, either, not-both}

@@ -6,7 +6,7 @@ use Rattle.std.proofs.lemmas.Bool.{false≢true}
 use Rattle.std.proofs.Common.{inl, inr, sym, ◌∙◌, ap, ap₂, add-zero, add-suc, suc-add, one-add, arith}
 use Rattle.std.proofs.Math.Path.{refl}
 use Rattle.std.proofs.lemmas.List.{length-map}
-use Rattle.slot.specs.If.{if◌then◌else◌}
+use Rattle.std.specs.Prelude.{if◌then◌else◌}
 use Rattle.store.specs.Lists.{at, numbered, keep, any}
 use Rattle.store.specs.Model.{free, Model, limits_of, no_shape, no_edge, free_shape, free_table, shape_at}
 use Rattle.store.specs.Model.{table_at, edge_at}

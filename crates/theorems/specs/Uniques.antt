@@ -6,7 +6,7 @@ use mathlib.Core.List.{List, []}
 use Rattle.std.proofs.Common.{inl, inr, sym, ◌∙◌, arith, take_all}
 use Rattle.std.proofs.Math.Path.{refl, ap}
 use borrow.Author.Tests.{eqb-false}
-use Rattle.slot.specs.If.{if◌then◌else◌}
+use Rattle.std.specs.Prelude.{if◌then◌else◌}
 use Rattle.slot.specs.Attributes.{good_attributes, same_width}
 use Rattle.store.specs.Model.{used, Model, shape_at, table_at, put_shape, put_table}
 use Rattle.store.specs.ListLaws.{and_both, Decided, either, not-both}

@@ -1,6 +1,6 @@
 -- `inner_c::inner_lookup` meets its contract. Assumes nothing.
 use Rattle.shapes.specs.Called.{ready, answered}
-use Rattle.shapes_c.specs.Told.{tells}
+use Rattle.replies.specs.Told.{tells}
 use borrow.Author.Rules.{rules}
 use Rattle.inner_c.proofs.inner_lookup.Statement.{statement}
 use Rattle.inner_c.proofs.inner_lookup.Tie as tie

@@ -1,6 +1,6 @@
 -- `shapes_c::shapes_is_sound` meets its contract. Assumes nothing.
 use mathlib.Core.Path.{sym, ◌∙◌}
-use Rattle.shapes_c.specs.Told.{tells, is_tested}
+use Rattle.replies.specs.Told.{tells, is_tested}
 use borrow.Author.Rules.{rules}
 use Rattle.shapes_c.proofs.shapes_is_sound.Statement.{statement}
 use Rattle.shapes_c.proofs.shapes_is_sound.Tie as tie

@@ -1,5 +1,5 @@
 -- `shapes_c::shapes_keys` meets its contract. Assumes nothing.
-use Rattle.shapes_c.specs.Told.{lists}
+use Rattle.replies.specs.Told.{lists}
 use borrow.Author.Rules.{rules}
 use Rattle.shapes_c.proofs.shapes_keys.Statement.{statement}
 use Rattle.shapes_c.proofs.shapes_keys.Tie as tie

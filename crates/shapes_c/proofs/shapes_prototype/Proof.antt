@@ -1,5 +1,5 @@
 -- `shapes_c::shapes_prototype` meets its contract. Assumes nothing.
-use Rattle.shapes_c.specs.Told.{tells}
+use Rattle.replies.specs.Told.{tells}
 use borrow.Author.Rules.{rules}
 use Rattle.shapes_c.proofs.shapes_prototype.Statement.{statement}
 use Rattle.shapes_c.proofs.shapes_prototype.Tie as tie

@@ -1,5 +1,5 @@
 -- `shapes_c::shapes_unique` meets its contract. Assumes nothing.
-use Rattle.shapes_c.specs.Told.{tells}
+use Rattle.replies.specs.Told.{tells}
 use borrow.Author.Rules.{rules}
 use Rattle.shapes_c.proofs.shapes_unique.Statement.{statement}
 use Rattle.shapes_c.proofs.shapes_unique.Tie as tie

@@ -1,7 +1,7 @@
 -- `sweep::passes::sweep_shapes` meets its contract. Assumes nothing.
 use Prim.Native.Nat.{◌+◌}
 use native.Mathlib.Omega.{arith}
-use Rattle.slot.specs.If.{if◌then◌else◌}
+use Rattle.std.specs.Prelude.{if◌then◌else◌}
 use Rattle.store.specs.declared.Shape.{Shape}
 use Rattle.store.specs.Model.{no_shape, shape_at, put_shape}
 use Rattle.store.specs.Layout.{parse}

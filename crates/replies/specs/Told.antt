@@ -2,7 +2,7 @@
 -- Assumes nothing.
 use Rattle.std.specs.Prelude.{Bool, List, [], ◌≡◌, refl, ℕ}
 use Rattle.std.proofs.Common.{◌∙◌, ap}
-use Rattle.slot.specs.If.{if◌then◌else◌}
+use Rattle.std.specs.Prelude.{if◌then◌else◌}
 use Rattle.store.specs.declared.Limits.{Limits}
 use Rattle.rules.specs.declared.Refusal.TheVariants.{Damaged}
 use Rattle.rules.specs.declared.KeysReply.{KeysReply}
