@@ -6,7 +6,7 @@ use Rattle.std.proofs.lemmas.List.{length-replicate}
 use Rattle.store.specs.Model.{no_shape, no_edge}
 use Rattle.store.specs.Layout.{parse, formatted}
 use Rattle.store.specs.Image.{Sizes}
-use Rattle.rules.specs.Formatted.{formatted-read}
+use Rattle.rules.proofs.Formatted.{formatted-read}
 use Rattle.rules.specs.Runner.{runner_limits}
 
 -- "S 256, T 32, K 32, E 256"

@@ -5,7 +5,7 @@ use Rattle.std.proofs.Common.{arith}
 use Rattle.store.specs.Lists.{lowest}
 use Rattle.rules.specs.declared.Refusal.{Refusal}
 use Rattle.rules.specs.Refusals.{Got, ok, refused, ◌>>=◌, ◌>>◌, refuse, place}
-use Rattle.rules.specs.Settled.{same_given}
+use Rattle.rules.proofs.Settled.{same_given}
 use Rattle.theorems.specs.Taken.{FreePlace, place-passed}
 use Rattle.plan.specs.Plan.{count}
 use Rattle.plan.specs.Counting.{lowest-count}

@@ -10,7 +10,7 @@ use Rattle.store.specs.declared.Entry.{Entry}
 use Rattle.rules.specs.declared.Refusal.TheVariants.{ShapesFull, TablesFull}
 use Rattle.rules.specs.Refusals.{ok, ◌>>=◌, place}
 use Rattle.rules.specs.Shapes.{entries, unique_shape}
-use Rattle.rules.specs.Settled.{same_given}
+use Rattle.rules.proofs.Settled.{same_given}
 use Rattle.rules.specs.Steps.{Step, Placed, copy_to, step, steps, fresh, limited}
 use Rattle.theorems.specs.Facts.{Sound}
 use Rattle.theorems.specs.Taken.{Bound, bind_passed, place-passed}

@@ -20,7 +20,3 @@ pub mod Broken
 pub mod Worked
 pub mod AtLimit
 pub mod RunnerLines
-pub mod Settled
-pub mod FirstLaws
-pub mod Formatted
-pub mod InOrder

@@ -12,7 +12,7 @@ use Rattle.store.specs.declared.Entry.{Entry}
 use Rattle.rules.specs.Numbers.{good_key}
 use Rattle.rules.specs.Shapes.{has, attributes_in, without, laid, configured, unique, root_shape, unique_shape}
 use Rattle.rules.specs.Refusals.{Got, ok}
-use Rattle.rules.specs.Settled.{same_given}
+use Rattle.rules.proofs.Settled.{same_given}
 use Rattle.rules.specs.Steps.{Step, insert, configure, prototype, Placed, step, steps, rollback, fresh}
 use Rattle.rules.specs.Steps.{then_limit}
 use Rattle.rules.specs.Unique.{emptied, replaced, remove_unique, change_unique, prototype_unique}

@@ -14,7 +14,7 @@ use Rattle.rules.specs.Refusals.{Got, ok, refused, ◌>>=◌}
 use Rattle.rules.specs.Steps.{Step, Placed, step, steps, fresh, limited, then_limit}
 use Rattle.rules.specs.declared.StepRecord.{StepRecord}
 use Rattle.rules.specs.Placing.{step_in, Passes, Places, placed}
-use Rattle.rules.specs.Settled.{same_given}
+use Rattle.rules.proofs.Settled.{same_given}
 use Rattle.steps.specs.Records.{records, steps_in, count-records}
 use Rattle.rules.specs.InUse.{shared_used}
 use Rattle.theorems.specs.Facts.{Used, Sound, used_place_inside}

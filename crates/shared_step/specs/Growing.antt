@@ -17,7 +17,7 @@ use Rattle.rules.specs.declared.Refusal.TheVariants.{KeysFull, ShapesFull, Edges
 use Rattle.rules.specs.Numbers.{good_key}
 use Rattle.rules.specs.Shapes.{table_of}
 use Rattle.rules.specs.Refusals.{Got, ok, place}
-use Rattle.rules.specs.Settled.{guard_passed}
+use Rattle.rules.proofs.Settled.{guard_passed}
 use Rattle.rules.specs.Placing.{Passes, Places, places, placed}
 use Rattle.rules.specs.Steps.{Step, insert, configure, prototype, edge_of, edge_attributes, added, Placed}
 use Rattle.rules.specs.Steps.{child_table, child_shape, grow}

@@ -10,7 +10,7 @@ use Rattle.store.specs.Model.{Model, free, no_shape, no_edge, blank}
 use Rattle.store.specs.Layout.{parse, formattable, formatted}
 use Rattle.store.specs.ThereAndBack.{blank-words, fits-blank}
 use Rattle.store.specs.Image.{Formed, Lays, Becomes, unchanged}
-use Rattle.rules.specs.Formatted.{blank-sound, formatted-read}
+use Rattle.rules.proofs.Formatted.{blank-sound, formatted-read}
 use Rattle.rules.specs.Refusals.{Got, ok, refused}
 use Rattle.rules.specs.Calls.{Call, Answer, Reply, perform, settle, call}
 use Rattle.rules.specs.Replies.{Answers}

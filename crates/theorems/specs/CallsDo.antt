@@ -17,7 +17,7 @@ use Rattle.rules.specs.declared.Refusal.TheVariants.{NoShape, HoldsFull}
 use Rattle.rules.specs.Shapes.{has, attributes_in, without, shared, unique, is_root, root_shape, unique_shape}
 use Rattle.rules.specs.Shapes.{with_holds}
 use Rattle.rules.specs.Refusals.{Got, ok}
-use Rattle.rules.specs.Settled.{guard_passed, same_given, call_answered}
+use Rattle.rules.proofs.Settled.{guard_passed, same_given, call_answered}
 use Rattle.rules.specs.Steps.{Step, Placed, fresh}
 use Rattle.rules.specs.Trails.{trail, root}
 use Rattle.rules.specs.Calls.{Call, new_root, new_unique, insert_key, change_key, remove_key, change_prototype, hold}

@@ -16,7 +16,7 @@ use Rattle.rules.specs.declared.ChangeTransitionAction.TheVariants.{Nothing}
 use Rattle.rules.specs.declared.Refusal.TheVariants.{NoShape}
 use Rattle.rules.specs.Shapes.{attributes_in, shared, unique, root_shape, unique_shape}
 use Rattle.rules.specs.Refusals.{Got, ok, refused, ◌>>=◌}
-use Rattle.rules.specs.Settled.{guard_passed, same_given}
+use Rattle.rules.proofs.Settled.{guard_passed, same_given}
 use Rattle.rules.specs.Steps.{Placed, fresh}
 use Rattle.rules.specs.Calls.{Call, new_root, new_unique, insert_key, change_key, remove_key, change_prototype, hold}
 use Rattle.rules.specs.Calls.{release, previous, sweep, ask, Answer, Given, Reply, No, Yes, unheld, grant}

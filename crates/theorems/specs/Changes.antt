@@ -13,7 +13,7 @@ use Rattle.store.specs.declared.Entry.{Entry}
 use Rattle.rules.specs.Numbers.{good_key}
 use Rattle.rules.specs.Shapes.{has, attributes_in, unique, is_root, entries, root_shape, unique_shape}
 use Rattle.rules.specs.Refusals.{Got, ok, ◌>>=◌}
-use Rattle.rules.specs.Settled.{same_given}
+use Rattle.rules.proofs.Settled.{same_given}
 use Rattle.rules.specs.Steps.{Step, insert, prototype, Placed, step, remove_shared, change_shared, fresh, limited}
 use Rattle.rules.specs.Unique.{insert_unique, remove_unique, change_unique, prototype_unique, inserted, changed}
 use Rattle.rules.specs.Unique.{removed, rebased}

@@ -10,7 +10,7 @@ use Rattle.rules.specs.Shapes.{widths}
 use Rattle.rules.specs.Sound.{sound}
 use Rattle.rules.specs.Calls.{Call, sweep, Done, Yes, call_on, format}
 use Rattle.rules.specs.Trails.{trail, root}
-use Rattle.rules.specs.Formatted.{format-sound}
+use Rattle.rules.proofs.Formatted.{format-sound}
 use Rattle.theorems.specs.Entries.{slot_at}
 use Rattle.theorems.specs.Frame.{Kept, kept-root}
 use Rattle.theorems.specs.Made.{SharedAt, entries_at, prototype_at}

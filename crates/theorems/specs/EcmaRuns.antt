@@ -12,9 +12,9 @@ use Rattle.store.specs.declared.Limits.{Limits}
 use Rattle.rules.specs.declared.ChangeTransitionAction.{ChangeTransitionAction}
 use Rattle.rules.specs.declared.Refusal.TheVariants.{NoShape, OutShort}
 use Rattle.rules.specs.Shapes.{unique}
-use Rattle.rules.specs.Settled.{guard_passed, same_given, call_answered}
-use Rattle.rules.specs.Formatted.{format-sound, format-unheld}
-use Rattle.rules.specs.FirstLaws.{refused_call}
+use Rattle.rules.proofs.Settled.{guard_passed, same_given, call_answered}
+use Rattle.rules.proofs.Formatted.{format-sound, format-unheld}
+use Rattle.rules.proofs.FirstLaws.{refused_call}
 use Rattle.rules.specs.Sound.{sound}
 use Rattle.rules.specs.Sweep.{key_list}
 use Rattle.rules.specs.Trails.{trail}

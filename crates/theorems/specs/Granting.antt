@@ -12,7 +12,7 @@ use Rattle.rules.specs.declared.Refusal.TheVariants.{BadKey, BadAttributes, NoSh
 use Rattle.rules.specs.Numbers.{good_key}
 use Rattle.rules.specs.Shapes.{has, attributes_in, without, shared}
 use Rattle.rules.specs.Refusals.{Got, ok, ◌>>=◌}
-use Rattle.rules.specs.Settled.{guard_passed}
+use Rattle.rules.proofs.Settled.{guard_passed}
 use Rattle.rules.specs.Steps.{insert, Placed}
 use Rattle.rules.specs.Unique.{inserted, changed, removed, rebased}
 use Rattle.rules.specs.Calls.{insert_key, change_key, remove_key, change_prototype, Answer, unheld, grant}

@@ -7,7 +7,7 @@ use Rattle.store.specs.declared.Limits.{Limits}
 use Rattle.store.specs.Layout.{parse}
 use Rattle.rules.specs.Sound.{sound}
 use Rattle.rules.specs.Calls.{Call, Done, Yes, call_on, format}
-use Rattle.rules.specs.Formatted.{format-sound}
+use Rattle.rules.proofs.Formatted.{format-sound}
 use Rattle.theorems.specs.Quiet.{holds_at, raw_holds}
 use Rattle.theorems.specs.CallsKeep.{granted, released, called}
 use Rattle.theorems.specs.WordsKeep.{sound-read, sound-call}

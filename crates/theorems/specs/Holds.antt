@@ -13,7 +13,7 @@ use Rattle.rules.specs.declared.Refusal.TheVariants.{HoldsFull}
 use Rattle.rules.specs.Shapes.{with_holds}
 use Rattle.rules.specs.Refusals.{ok}
 use Rattle.rules.specs.Calls.{Answer, Given, grant, release_one}
-use Rattle.rules.specs.Settled.{guard_passed, same_given}
+use Rattle.rules.proofs.Settled.{guard_passed, same_given}
 use Rattle.rules.specs.InUse.{shared_used}
 use Rattle.theorems.specs.Facts.{Used, InLimits, Sound}
 use Rattle.theorems.specs.Frame.{core, Change, Keeps, change_keeps, longer_same, previous_used}

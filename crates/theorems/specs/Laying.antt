@@ -19,7 +19,7 @@ use Rattle.rules.specs.Shapes.{has, appended, configured, unique, table_of, entr
 use Rattle.rules.specs.Refusals.{Got, ok, ◌>>=◌, place}
 use Rattle.rules.specs.Steps.{Step, insert, configure, prototype, step_entries, added, edge_of, Placed, copy_to}
 use Rattle.rules.specs.Steps.{child_table, child_shape, grow}
-use Rattle.rules.specs.Settled.{guard_passed, same_given}
+use Rattle.rules.proofs.Settled.{guard_passed, same_given}
 use Rattle.rules.specs.InUse.{shared_used}
 use Rattle.theorems.specs.Facts.{Used, GoodTable, Sound, shared-not-unique, used_table}
 use Rattle.theorems.specs.Entries.{good_take, good_appended, length-appended, attributes_take}

@@ -14,7 +14,7 @@ use Rattle.rules.specs.declared.ChangeTransitionAction.{ChangeTransitionAction}
 use Rattle.rules.specs.declared.Refusal.TheVariants.{BadKey, BadAttributes, NoShape, Absent}
 use Rattle.rules.specs.Numbers.{good_key}
 use Rattle.rules.specs.Shapes.{has, attributes_in}
-use Rattle.rules.specs.Settled.{guard_passed}
+use Rattle.rules.proofs.Settled.{guard_passed}
 use Rattle.rules.specs.Steps.{Step, insert, configure, prototype}
 use Rattle.rules.specs.Calls.{Call, insert_key, change_key, remove_key, change_prototype, ask, transitions_of, Given}
 use Rattle.rules.specs.Calls.{Done, Number, Yes, unheld, perform, call, call_on, format}

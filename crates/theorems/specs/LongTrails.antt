@@ -23,8 +23,8 @@ use Rattle.rules.specs.declared.ChangeTransitionAction.TheVariants.{Nothing}
 use Rattle.rules.specs.declared.Refusal.TheVariants.{ShapesFull, TablesFull, EdgesFull}
 use Rattle.rules.specs.Shapes.{root_shape, with_holds}
 use Rattle.rules.specs.Refusals.{Got, ok, ◌>>=◌, place}
-use Rattle.rules.specs.FirstLaws.{prune-at}
-use Rattle.rules.specs.Formatted.{format-sound, format_read, format-tables, format-unheld}
+use Rattle.rules.proofs.FirstLaws.{prune-at}
+use Rattle.rules.proofs.Formatted.{format-sound, format_read, format-tables, format-unheld}
 use Rattle.rules.specs.Steps.{with_edges, prune, Step, prototype, edge_of, edge_kind, alike, dead, counter, pruned}
 use Rattle.rules.specs.Steps.{counted, Placed, copy_to, child_table, child_shape, grow, make, along, step, fresh}
 use Rattle.rules.specs.Steps.{limited}

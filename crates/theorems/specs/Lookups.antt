@@ -15,7 +15,7 @@ use Rattle.rules.specs.Refusals.{ok, ◌>>◌, refuse}
 use Rattle.rules.specs.Shapes.{entry, is_key, table_of, entries}
 use Rattle.rules.specs.Sweep.{found}
 use Rattle.rules.specs.Calls.{ask, lookup, Answer, Found, NotFound, unheld, slot_of, perform, Yes, call}
-use Rattle.rules.specs.Settled.{guard_passed, same_given, call_answered}
+use Rattle.rules.proofs.Settled.{guard_passed, same_given, call_answered}
 
 -- The entry stands in the shape's table, below its property count.
 pub record OwnEntry (m : Model) (s : Shape) (e : Entry) : Type 0 where

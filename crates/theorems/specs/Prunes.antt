@@ -12,7 +12,7 @@ use Rattle.store.specs.ListLaws.{Decided, not-both, either}
 use Rattle.store.specs.declared.Counters.{Counters}
 use Rattle.rules.specs.Shapes.{shared, with_counters}
 use Rattle.rules.specs.Steps.{dead, prune, counter, set_counter, put_counter, with_edges, pruned, counted}
-use Rattle.rules.specs.FirstLaws.{prune-at, prune_live}
+use Rattle.rules.proofs.FirstLaws.{prune-at, prune_live}
 use Rattle.rules.specs.InUse.{shared_used}
 use Rattle.theorems.specs.Facts.{Used, InLimits, Sound, shared-not-unique, used_place}
 use Rattle.theorems.specs.Frame.{EdgeCase, vacant, Change, Keeps, change_keeps, keeps_again, kept_used}

@@ -9,7 +9,7 @@ use Rattle.store.specs.declared.Entry.{Entry}
 use Rattle.rules.specs.declared.Refusal.TheVariants.{BadKey, NoShape, OutShort}
 use Rattle.rules.specs.Numbers.{good_key}
 use Rattle.rules.specs.Refusals.{ok}
-use Rattle.rules.specs.Settled.{guard_passed, same_given}
+use Rattle.rules.proofs.Settled.{guard_passed, same_given}
 use Rattle.rules.specs.Sweep.{found, key_list}
 use Rattle.rules.specs.Calls.{Question, lookup, keys_into, prototype_of, is_shared, transitions_of, properties_of}
 use Rattle.rules.specs.Calls.{ask, Answer, unheld, slot_of, perform}

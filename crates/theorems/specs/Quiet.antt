@@ -19,7 +19,7 @@ use Rattle.rules.specs.declared.Refusal.TheVariants.{KeysFull, ShapesFull, Table
 use Rattle.rules.specs.Shapes.{has, attributes_in, configured, without, laid, unique, table_of, entries}
 use Rattle.rules.specs.Shapes.{unique_shape, with_properties, with_holds}
 use Rattle.rules.specs.Refusals.{Got, ok, place}
-use Rattle.rules.specs.Settled.{guard_passed, same_given}
+use Rattle.rules.proofs.Settled.{guard_passed, same_given}
 use Rattle.rules.specs.Steps.{Step, insert, configure, prototype, edge_of, edge_kind, added, alike, counter}
 use Rattle.rules.specs.Steps.{pruned, counted, Placed, copy_to, child_table, grow, make, along, step, steps}
 use Rattle.rules.specs.Steps.{rollback, remove_shared, change_shared, fresh}

@@ -9,7 +9,7 @@ use Rattle.rules.specs.declared.ChangeTransitionAction.{ChangeTransitionAction}
 use Rattle.rules.specs.declared.Refusal.TheVariants.{NoShape, HoldsFull}
 use Rattle.rules.specs.Shapes.{unique}
 use Rattle.rules.specs.Refusals.{Got, ok}
-use Rattle.rules.specs.Settled.{guard_passed, same_given, call_answered}
+use Rattle.rules.proofs.Settled.{guard_passed, same_given, call_answered}
 use Rattle.rules.specs.Steps.{Placed}
 use Rattle.rules.specs.Calls.{Call, new_root, new_unique, insert_key, change_key, remove_key, change_prototype, hold}
 use Rattle.rules.specs.Calls.{release, previous, sweep, Question, ask, Answer, Given, Freed, Done, Found}

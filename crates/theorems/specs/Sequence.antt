@@ -16,7 +16,7 @@ use Rattle.rules.specs.Steps.{Step, insert, configure, prototype, may_step, edge
 use Rattle.rules.specs.Steps.{rollback, remove_shared, change_shared}
 use Rattle.rules.specs.Sound.{good_label}
 use Rattle.rules.specs.Trails.{trail, root}
-use Rattle.rules.specs.Settled.{same_given}
+use Rattle.rules.proofs.Settled.{same_given}
 use Rattle.rules.specs.InUse.{shared_used}
 use Rattle.theorems.specs.Facts.{Used, Sound}
 use Rattle.theorems.specs.Frame.{Keeps, keeps_self, keeps_again, kept_used, kept-root}

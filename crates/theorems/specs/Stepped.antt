@@ -13,7 +13,7 @@ use Rattle.store.specs.declared.Entry.{Entry}
 use Rattle.store.specs.declared.Edge.{Edge}
 use Rattle.rules.specs.Shapes.{has, shared, is_child, entries}
 use Rattle.rules.specs.Refusals.{ok}
-use Rattle.rules.specs.Settled.{same_given}
+use Rattle.rules.proofs.Settled.{same_given}
 use Rattle.rules.specs.Steps.{Step, insert, configure, prototype, edge_of, edge_kind, may_step}
 use Rattle.rules.specs.Steps.{alike, dead, Placed, pruned, make, along, step}
 use Rattle.rules.specs.Sound.{step_of}

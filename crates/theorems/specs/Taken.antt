@@ -6,8 +6,8 @@ use Rattle.store.specs.Lists.{at, lowest}
 use Rattle.store.specs.ListLaws.{Decided, either, not-both}
 use Rattle.rules.specs.declared.Refusal.{Refusal}
 use Rattle.rules.specs.Refusals.{Got, ok, refused, ◌>>=◌, place}
-use Rattle.rules.specs.FirstLaws.{place_given, place_refused}
-use Rattle.rules.specs.Settled.{guard_passed, same_given}
+use Rattle.rules.proofs.FirstLaws.{place_given, place_refused}
+use Rattle.rules.proofs.Settled.{guard_passed, same_given}
 
 -- What stands below a part has been given the part's result.
 pub record Bound {A B : Type 0} (g : Got A) (f : A → Got B) (y : B) : Type 0 where

@@ -18,7 +18,7 @@ use Rattle.rules.specs.Numbers.{good_key}
 use Rattle.rules.specs.Shapes.{has, attributes_in, appended, configured, without, laid, shared, unique}
 use Rattle.rules.specs.Shapes.{table_of, entries, unique_shape, with_properties}
 use Rattle.rules.specs.Refusals.{ok}
-use Rattle.rules.specs.Settled.{guard_passed, same_given}
+use Rattle.rules.proofs.Settled.{guard_passed, same_given}
 use Rattle.rules.specs.Steps.{Placed}
 use Rattle.rules.specs.Sound.{good_entries}
 use Rattle.rules.specs.Unique.{emptied, replaced, insert_unique, remove_unique, change_unique, prototype_unique}

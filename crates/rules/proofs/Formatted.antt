@@ -20,7 +20,7 @@ use Rattle.rules.specs.Sound.{roots_zero, children_linked, children_stepped, no_
 use Rattle.rules.specs.Sound.{edges_good, transitions_limited, holds_limited, uniques_zero, model_sentences}
 use Rattle.rules.specs.Sound.{sound_model, word_sentences, sound_words, sound}
 use Rattle.rules.specs.Calls.{Done, Yes, formatting, format}
-use Rattle.rules.specs.Settled.{guard_passed, same_given, settle_answered}
+use Rattle.rules.proofs.Settled.{guard_passed, same_given, settle_answered}
 
 -- Free edges are no two alike.
 free_unlike : (n : ℕ) → no_two_alike (replicate n no_edge) ≡ true

@@ -18,7 +18,7 @@ use Rattle.rules.specs.Refusals.{ok, refused, place}
 use Rattle.rules.specs.Steps.{dead, prune}
 use Rattle.rules.specs.Sound.{sound_model, word_sentences, sound_words}
 use Rattle.rules.specs.Calls.{Call, perform, Reply, No, call, call_on, formatting, format}
-use Rattle.rules.specs.Settled.{settle_refused}
+use Rattle.rules.proofs.Settled.{settle_refused}
 use Rattle.store.specs.PlaceLaws.{NoneBelow, FirstAt, FirstOrNone, first_or_none, lowest-first, lowest-none}
 use Rattle.store.specs.PlaceLaws.{at_map}
 

@@ -22,7 +22,7 @@ use Rattle.rules.specs.Shapes.{has, appended, configured, table_of, entries, wit
 use Rattle.rules.specs.Steps.{Step, insert, configure, prototype, edge_of, edge_kind, added, prune}
 use Rattle.rules.specs.Steps.{counter, set_counter, put_counter, pruned, counted, Placed, copy_to}
 use Rattle.rules.specs.Steps.{child_table, child_shape, grow, make}
-use Rattle.rules.specs.FirstLaws.{place_given}
+use Rattle.rules.proofs.FirstLaws.{place_given}
 
 -- ## The order of document 01
 

@@ -1,0 +1,4 @@
+pub mod FirstLaws
+pub mod InOrder
+pub mod Settled
+pub mod Formatted
