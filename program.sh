@@ -1,6 +1,4 @@
-# Read by ./run and ./draw, which set `program` to a crate's name: the program is proved and built first, if that is
-# still to be done or a file of its crates has changed, and then run. Read by c/build too, for the kit and how it runs
-# a program.
+# Read by ./run, ./draw and c/build: has rt prove and build what they run.
 
 die() { printf '%s: %s\n' "$0" "$1" >&2; exit "${2:-2}"; }
 
@@ -12,36 +10,29 @@ take_steps() {
     exec <"$1"
 }
 
-# The command rt, and what its kit has for this machine; an emulator only where the machine is no x86-64.
+# The command rt itself, behind the links to it, and the folder of its kit.
 find_kit() {
-    rt=$(command -v rt) || die "no Rattle toolchain: the command rt is not on the PATH"
-    while [ -L "$rt" ]; do
-        link=$(readlink "$rt")
-        case $link in /*) rt=$link ;; *) rt=$(dirname "$rt")/$link ;; esac
-    done
-    kit=${RATTLE_HOME:-$(dirname "$rt")/..}/on/$(uname -m)
-    tools=$kit/toolchain
-    emulator=$tools/bin/qemu-x86_64
-    [ -x "$emulator" ] || emulator=
+    rt=$(command -v rt) && rt=$(readlink -f "$rt") || die "no Rattle toolchain: the command rt is not on the PATH"
+    kit=${rt%/bin/rt}
 }
 
-build_program() {
+# build run CRATE, build lib CRATE: proves a program, or an archive, and builds it as crates/CRATE/out/CRATE, or
+# crates/CRATE/out/libCRATE.a, if that is still to be done or a file has changed. In the repository's folder.
+build() {
     find_kit
-    cd "$(dirname "$0")" || die "cannot enter the repository's folder"
-    log=target/$program.log built=target/$program.built
+    case $1 in run) built=$2 ;; *) built=lib$2.a ;; esac
+    log=target/$built.log
+    stamp=target/$built.stamp
+    built=crates/$2/out/$built
 
-    # Newer than the last build: a file that the program may depend on.
-    if [ -x target/bin/$program ] && [ -f $built ] && [ -z "$(find crates.txt crates -newer $built -print | head -n 1)" ]; then
+    # Newer than the last build: a file that this one may depend on. What rt writes to out/ is none.
+    if [ -f "$built" ] && [ -f "$stamp" ] &&
+        [ -z "$(find crates.txt "$rt" crates/*/src crates/*/specs crates/*/proofs -newer "$stamp" | head -n 1)" ]; then
         return 0
     fi
-    printf '%s: proving and building the program (some minutes, the first time only)\n' "$0" >&2
-    mkdir -p target
-    : >$built.new
-    rt check $program >$log 2>&1 </dev/null || die "the program is not proved; $PWD/$log says why" 1
-    mv $built.new $built
-}
-
-# run_program FILE WORD..: as rt runs a program, under the kit's loader.
-run_program() {
-    ${emulator:+"$emulator"} "$tools/lib/ld-linux-x86-64.so.2" --library-path "$tools/lib" "$@"
+    printf '%s: proving and building %s (some minutes, the first time only)\n' "$0" "$built" >&2
+    mkdir -p target || exit 2
+    : >"$stamp.new"
+    (cd "crates/$2" && rt "$1") >"$log" 2>&1 </dev/null || die "$2 is not proved; $PWD/$log says why" 1
+    mv "$stamp.new" "$stamp"
 }

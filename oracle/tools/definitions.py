@@ -1,10 +1,10 @@
 """Holds the definitions of crates/rules against numbers that the oracle gave: as theorems, proved by computation."""
-import os
 import re
 import shutil
 import subprocess
 import tempfile
 from dataclasses import dataclass
+from multiprocessing.pool import ThreadPool
 from pathlib import Path
 
 import every
@@ -24,13 +24,9 @@ ROWS_AT_ONCE = 40
 HEADER = """\
 -- Made from the oracle's answers.
 -- Assumes nothing.
-use mathlib.Core.List.{List, [], _∷_}
-use mathlib.Core.Path.{_≡_, refl}
-use Prim.Native.Nat.{ℕ}
-use Rattle·rules.specs.Calls.{newRoot, newUnique}
-use Rattle·CRATE·specs.specs.Replay.{
-  atSweep, atOnce, limits, firstLines, replay, replayUntested, replayFrom, every
-}
+use Rattle.std.specs.Prelude.{List, [], ◌∷◌, ◌≡◌, refl, ℕ}
+use Rattle.rules.specs.Calls.{new_root, new_unique}
+use Rattle.CRATE.specs.Replay.{at_sweep, at_once, limits, first_lines, replay, replay_untested, replay_from, every}
 """
 
 
@@ -70,13 +66,14 @@ def antt_text(text):
 # ## The temporary repository
 
 def used_modules(text, crate):
-    """The modules of a crate's specs that an antt file uses, from within that crate or from another."""
-    return set(re.findall(rf"use Rattle·{crate}(?:·specs)?\.specs\.(\w+)\.", text)) - {"declared"}
+    """The modules of a crate's specs that an antt file uses."""
+    return set(re.findall(rf"use Rattle\.{crate}\.specs\.(\w+)\.", text)) - {"declared"}
 
 
 def needed_modules(specs):
-    """What the replay stands on, of the compared crate."""
-    needed, waiting = set(), used_modules(REPLAY.read_text(), COMPARED)
+    """What the replay stands on, of the compared crate, and what the crate's own code does."""
+    code = (specs.parent / "src" / "lib.rt").read_text()
+    needed, waiting = set(), used_modules(REPLAY.read_text() + code, COMPARED)
     while waiting:
         module = waiting.pop()
         needed.add(module)
@@ -92,6 +89,8 @@ def drop_the_rest(specs):
     library = specs / "Lib.antt"
     kept = [line for line in library.read_text().splitlines() if line.split()[-1] in needed]
     library.write_text("\n".join(kept) + "\n")
+    # These are laws.
+    shutil.rmtree(specs.parent / "proofs")
 
 
 class Repository:
@@ -100,11 +99,11 @@ class Repository:
     def __init__(self):
         self.folder = Path(tempfile.mkdtemp(prefix="compare-"))
         shutil.copy(ROOT / "crates.txt", self.folder)
-        shutil.copytree(ROOT / "crates", self.folder / "crates")
-        for unneeded in self.folder.glob("crates/*/must-fail"):
-            shutil.rmtree(unneeded)
+        shutil.copytree(ROOT / "crates", self.folder / "crates", ignore=shutil.ignore_patterns("out", "must-fail"))
         self.keep_only_below_the_replay()
         drop_the_rest(self.specs_of(COMPARED))
+        for crate in CRATES:
+            self.write_theorems(crate, [])
 
     def __enter__(self):
         return self
@@ -148,10 +147,12 @@ class Repository:
         path.write_text(text.replace(old, new))
 
     def check(self, *crates):
-        done = subprocess.run(
-            ["rt", "check", *crates], cwd=self.folder, capture_output=True, text=True, env=dict(os.environ, RT_CUT="0")
-        )
-        return done.returncode, done.stdout + done.stderr
+        """All at the same time; the highest status, and what is printed of all."""
+        how = {"stdout": subprocess.PIPE, "stderr": subprocess.STDOUT, "text": True}
+        started = [subprocess.Popen(["rt", "check"], cwd=self.folder / "crates" / crate, **how) for crate in crates]
+        with ThreadPool(len(started)) as pool:
+            printed = pool.map(lambda one: one.communicate()[0], started)
+        return max(one.returncode for one in started), "".join(printed)
 
     def check_definitions(self):
         """By themselves, so that what fails after them is a theorem."""
@@ -200,7 +201,7 @@ def errors_by_theorem(printed):
 
 # ## Theorems of runs
 
-COLLECTOR_NAMES = ("atSweep", "atOnce")
+COLLECTOR_NAMES = ("at_sweep", "at_once")
 
 
 @dataclass
@@ -226,7 +227,7 @@ class Held:
 
     def theorem_to_row(self, number, row):
         """Of everything up to a row, with one of the two collectors."""
-        left = f"firstLines {row} ({self.replayed(number)})"
+        left = f"first_lines {row} ({self.replayed(number)})"
         return Theorem(f"row-{row}", self.opened, left, antt_rows(self.said[number].numbers()[:row]))
 
 
@@ -271,7 +272,7 @@ def hold_counters(run):
     each."""
     late = hear_both(run)[0]
     shapes, tables, edges = run.room
-    return Held(run, (late,), (limits(shapes, tables, late.keys, edges),), "replayUntested")
+    return Held(run, (late,), (limits(shapes, tables, late.keys, edges),), "replay_untested")
 
 
 def trail_length(run):
@@ -304,7 +305,7 @@ def hold_limit(run):
     prototype = late.answers[length][4]
     image = limits(late.shapes - length, late.tables, late.keys, late.shapes - length)
     said = Said(answers, live)
-    return Held(Run(run.name, lines), (said,), (image,), "replayFrom", f"{length} {prototype}")
+    return Held(Run(run.name, lines), (said,), (image,), "replay_from", f"{length} {prototype}")
 
 
 def every_theorems():
@@ -313,7 +314,7 @@ def every_theorems():
     if every.all_digests(COLLECTORS[1])[0] != table:
         raise Trouble("the two collectors differ in a sequence of four calls")
     image = limits(sizes.shapes, sizes.tables, len(every.KEYS), sizes.shapes)
-    starts = {"R": "newRoot", "U": "newUnique"}
+    starts = {"R": "new_root", "U": "new_unique"}
     theorems = []
     for (start, first), values in table.items():
         for second, value in enumerate(values):

@@ -19,9 +19,9 @@ RUNS_PER_PROCESS = 4096
 LARGEST_FACTOR = 3
 
 
-def run_tool(command):
+def run_tool(command, folder=ROOT):
     try:
-        done = subprocess.run(command, cwd=ROOT, capture_output=True, text=True)
+        done = subprocess.run(command, cwd=folder, capture_output=True, text=True)
     except OSError as error:
         raise Trouble(f"{command[0]} cannot be run: {error}")
     if done.returncode != 0:
@@ -77,8 +77,9 @@ class CCalls:
 
     def __init__(self, archive):
         if archive is None:
-            run_tool(["rt", "staticlib", "shapes_c"])
-            archive = ROOT / "target" / "staticlib" / "libshapes_c.a"
+            crate = ROOT / "crates" / "shapes_c"
+            run_tool(["rt", "lib"], crate)
+            archive = crate / "out" / "libshapes_c.a"
         inside = ORACLE_FOLDER / "drivers" / "inside.c"
         self.driver = build_driver("c_calls", inside, "-I", ROOT / "include", archive)
 

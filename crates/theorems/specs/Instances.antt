@@ -1,5 +1,5 @@
 -- Five theorems with small instances that compute. Each instance has a wrong definition (`across/*.edit`) that
--- makes it compute to something else. The theorem is false then, since it gives the instance: `..-follows`,
+-- makes it compute to something else. The theorem is false then, since it gives the instance: `.._follows`,
 -- which is proved of the theorem's statement and so does not need the theorem.
 -- Assumes nothing.
 use Rattle.std.specs.Prelude.{Bool, true, false, List, [], ◌∷◌, ◌≡◌, refl, ℕ, eqb, length, replicate}
