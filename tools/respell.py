@@ -1,9 +1,9 @@
 #!/usr/bin/env python3
 """Brings this repository's own names to today's spelling: the second half of the port, run once, right after
-/opt/rattle/port/port.py, at the top of the repository.
+the kit's port.py, at the top of the repository.
 
 Words of our own go from camel case to snake case. A dash stays in a name whose parts are all defined words (as in
-`every-take`); elsewhere it becomes an underscore (`used-place-inside` is `used_place_inside`). Names of the library, functions and types of src/, strings and generated names keep their spelling. It stops, and writes nothing,
+`parse-words`); elsewhere it becomes an underscore (`used-place-inside` is `used_place_inside`). Names of the library, functions and types of src/, strings and generated names keep their spelling. It stops, and writes nothing,
 where two names of one file would fall together. With --table it prints what is renamed.
 """
 import glob
