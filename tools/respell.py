@@ -3,8 +3,9 @@
 the kit's port.py, at the top of the repository.
 
 Words of our own go from camel case to snake case. A dash stays in a name whose parts are all defined words (as in
-`parse-words`); elsewhere it becomes an underscore (`used-place-inside` is `used_place_inside`). Names of the library, functions and types of src/, strings and generated names keep their spelling. It stops, and writes nothing,
-where two names of one file would fall together. With --table it prints what is renamed.
+`parse-words`); elsewhere it becomes an underscore (`used-place-inside` is `used_place_inside`). Names of the library,
+functions and types of src/, strings and generated names keep their spelling. It stops, and writes nothing, where two
+names of one file would fall together. With --table it prints what is renamed.
 """
 import glob
 import os

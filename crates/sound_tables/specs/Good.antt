@@ -93,7 +93,7 @@ module _ {es : List Entry} {codes : List ℕ} {n long done next : ℕ} {e : Entr
         → w ≡ width e.attributes → p ≡ done → Right es long (done + 1) (next + w) (set codes p e.key)
     entry_next f g wide at =
         let small = s.small in
-        let Narrow-one = narrow e.attributes in
+        let narrow_one = narrow e.attributes in
         let long_keys = length-map es (λ (x : Entry). x.key) in
         record {
           small = omega arith;
