@@ -1,6 +1,6 @@
 -- What a step asks of the table of the shape it starts from, and the child's table as code makes it.
 -- Assumes nothing.
-use Rattle.std.specs.Prelude.{true, false, List, ◌≢◌, ◌≡◌, ℕ, ◌≤◌, ◌<◌, length}
+use Rattle.std.specs.Prelude.{true, false, List, ◌≢◌, ◌≡◌, ℕ, ◌≤◌, ◌<◌, length, Ok, Some}
 use Rattle.std.proofs.Common.{true≢false, ◌∙◌, ap, arith, get_or-take, length-take-le}
 use Rattle.std.proofs.Math.Path.{refl, sym}
 use borrow.Author.Tests.{eq-eqb, ne_eqb, le-leb, not-true}
@@ -14,7 +14,6 @@ use Rattle.store.specs.Image.{Formed, Place, unchanged}
 use Rattle.store.specs.ListLaws.{and_both, not-both}
 use Rattle.store.specs.declared.Shape.{Shape}
 use Rattle.store.specs.declared.Entry.{Entry}
-use Rattle.rules.specs.declared.Placement.TheVariants as placement
 use Rattle.rules.specs.declared.Refusal.TheVariants.{TablesFull}
 use Rattle.rules.specs.Shapes.{has, appended, configured, laid, table_of, entries}
 use Rattle.rules.specs.Refusals.{Got, ok, place}
@@ -27,7 +26,6 @@ use Rattle.theorems.specs.Facts.{GoodTable}
 use Rattle.theorems.specs.Entries.{keys, good_keys, attributes_take}
 use Rattle.theorems.specs.Taken.{bind_passed, place-passed, place-lowest}
 use Rattle.key_position.specs.Positions.{position_of, Stands, stands_at}
-use Rattle.key_position.specs.declared.OptionalPosition.TheVariants.{At}
 use Rattle.property_table.specs.Slotted.{Slotted, good_slotted}
 use Rattle.property_table.specs.Copies.{Apart}
 use Rattle.property_table.specs.OneKey.{key_at, configured-laid}
@@ -127,7 +125,7 @@ module _ {m : Model} {s : Shape} {k a : ℕ} (p : Parent m s (configure k a)) wh
   unfolding child_table
   configure_copies = copy refl
 
-  module _ {position : KeyPosition} (its : At position ≡ position_of k (entries m s)) where
+  module _ {position : KeyPosition} (its : Some position ≡ position_of k (entries m s)) where
     abbrev i : ℕ
     i = position.0
 
@@ -153,6 +151,6 @@ module _ {m : Model} {s : Shape} {k a : ℕ} (p : Parent m s (configure k a)) wh
 -- ## Prototype
 
 pub shares : {ws : List ℕ} (s : Shape) {t : Step} {p : ℕ} → t ≡ prototype p → Formed ws
-    → Places ws ws (child_table (parse ws) s t) (placement.At s.table)
+    → Places ws ws (child_table (parse ws) s t) (Ok s.table)
 unfolding child_table
 shares s e f = rw e (unchanged f, refl)

@@ -18,10 +18,6 @@ none_equal : (x : ℕ) (xs : List ℕ) → ((k : ℕ) → k < length xs → x �
 none_equal x [] h = refl
 none_equal x (y ∷ ys) h = rw (ne_eqb x y (h 0 (omega arith))) (none_equal x ys (λ k l. h (suc k) (omega arith)))
 
-pub none-distinct : (codes : List ℕ) → length codes ≡ 0 → distinct codes ≡ true
-none-distinct [] e = refl
-none-distinct (x ∷ xs) e = absurd (omega arith)
-
 pub distinct-passes : (codes : List ℕ) → Distinct codes → distinct codes ≡ true
 distinct-passes [] d = refl
 distinct-passes (x ∷ xs) d =

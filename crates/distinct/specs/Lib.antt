@@ -2,6 +2,6 @@ pub mod Pairs
 pub mod Places
 pub mod Distinct
 pub mod Seats
-pub mod Verdicts
+pub mod Rooms
 pub mod Rising
 pub mod Written

@@ -1,9 +1,8 @@
 -- Seats for codes: each code takes the first free seat from its own start on, so that a walk from there finds it.
 -- Assumes nothing.
 use Rattle.std.specs.Prelude.{◌≡◌, refl, List, ◌≢◌, Bool, true, false, ℕ, zero, suc, ◌+◌, ◌*◌, ◌-◌, ◌/◌, ◌%◌, ◌≤◌, ◌<◌, eqb, ltb, length, get_or, set, replicate}
-use Rattle.std.proofs.Common.{sym, ◌∙◌, mod-lt, mul_comm, mul-le-mul, div-lt_iff_lt-mul, mul-lt-mul_of_pos_right, add-one, arith, below_more, ltb-true, eqb-true, Fits, length-set, get_or-set_same, get_or-set_other}
+use Rattle.std.proofs.Common.{sym, ◌∙◌, mod-lt, mul_comm, div-lt_iff_lt-mul, mul-lt-mul_of_pos_right, add-one, arith, below_more, ltb-true, eqb-true, length-set, get_or-set_same, get_or-set_other}
 use Rattle.std.proofs.lemmas.Bool.{eqb-false}
-use Rattle.std.specs.Int.{w64}
 use Rattle.std.proofs.lemmas.List.{length-replicate}
 use Rattle.std.specs.Prelude.{if◌then◌else◌}
 use Rattle.rules.specs.Sound.{distinct}
@@ -57,11 +56,6 @@ unfolding start_of
 start-within {many} mine l =
     (div-lt_iff_lt-mul {k = 4294967296} (omega arith)).1
     (rw (mul_comm many 4294967296) (mul-lt-mul_of_pos_right (mod-lt _ (omega arith)) l))
-
-pub mod_times : (n : ℕ) {many : ℕ} → many ≤ 4294967296 → Fits w64 (n % 4294967296 * many)
-mod_times n l =
-    let part : n % 4294967296 ≤ 4294967295 = omega arith in
-    omega (arith, mul-le-mul part l)
 
 after-within : {many at : ℕ} → at < many → after many at < many
 after-within {many} {at} l = go (ltb (at + 1) many) refl

@@ -1,9 +1,9 @@
 // Whether codes are distinct, in linear time where they are scattered.
 #![tactic(auto)]
 
-ghost use Rattle.std.specs.Prelude.{◌≡◌, ◌≤◌, length, take};
+ghost use Rattle.std.specs.Prelude.{◌≡◌, ◌≤◌, IfSome, length, take};
 ghost use Rattle.rules.specs.Sound.{distinct};
-ghost use Rattle.distinct.specs.Verdicts.{Roomy, Tells};
+ghost use Rattle.distinct.specs.Rooms.{Roomy};
 
 use crate::orders::order_tells;
 use crate::pairs::pairs_differ;
@@ -14,24 +14,16 @@ mod pairs;
 mod seats;
 mod sorting;
 
-// What a quick way found.
-#[derive(Clone, Copy)]
-enum Verdict {
-    Distinct,
-    Twice,
-    Undecided,
-}
-
+// Whether the codes are distinct, where a quick way decides that.
 // An order decides where the seats did not, since many codes start at one seat.
-fn tell_quickly(codes: &[u64], room: &mut [u32]) -> Verdict
+fn tell_quickly(codes: &[u64], room: &mut [u32]) -> Option<bool>
     requires { Roomy (length codes.now) (length room.old) }
-    ensures { Tells result (distinct codes.now) }
+    ensures { IfSome result (λ told. told ≡ distinct codes.now) }
 {
-    let seated = seats_tell(codes, room);
-    if let Verdict::Undecided = seated {
-        return order_tells(codes, room);
+    match seats_tell(codes, room) {
+        Some(told) => Some(told),
+        None => order_tells(codes, room),
     }
-    seated
 }
 
 // A sort that sorts leaves nothing for the pairs.
@@ -39,11 +31,9 @@ fn all_distinct(codes: &[u64], room: &mut [u32]) -> bool
     requires { Roomy (length codes.now) (length room.old) }
     ensures { result ≡ distinct codes.now }
 {
-    let told = tell_quickly(codes, room);
-    match told {
-        Verdict::Distinct => true,
-        Verdict::Twice => false,
-        Verdict::Undecided => pairs_differ(codes),
+    match tell_quickly(codes, room) {
+        Some(told) => told,
+        None => pairs_differ(codes),
     }
 }
 

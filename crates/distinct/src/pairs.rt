@@ -9,12 +9,10 @@ fn is_last(codes: &[u64], place: usize) -> bool
     ensures { result ≡ none_after codes.now place }
 {
     let code = codes[place];
-    let mut done = place + 1;
-    while done < codes.len() {
+    for done in place + 1..codes.len() {
         if code == codes[done] {
             return false;
         }
-        done += 1;
     }
     true
 }
@@ -22,12 +20,10 @@ fn is_last(codes: &[u64], place: usize) -> bool
 pub fn pairs_differ(codes: &[u64]) -> bool
     ensures { result ≡ distinct codes.now }
 {
-    let mut done = 0;
-    while done < codes.len() {
+    for done in 0..codes.len() {
         if !is_last(codes, done) {
             return false;
         }
-        done += 1;
     }
     true
 }

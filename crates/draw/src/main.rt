@@ -1,7 +1,6 @@
 // Replays a step file as the step runner does, and prints the shapes at its end as a graph.
 #![tactic(auto)]
 
-ghost use Rattle.std.specs.Prelude.{◌≡◌, length};
 ghost use Rattle.stepping.specs.Answering.{Starts};
 
 use drawing::write_graph;
@@ -13,9 +12,8 @@ use stepping::format_image;
 // At most 5,200 bytes for each of 256 shapes, 121 for each of 256 edges, and 402 around them.
 const MOST: usize = 1362578;
 
-fn draw(rt: &(impl Input + Print), image: &mut [u32], out: &mut [u8]) -> io::Result<()>
-    requires starts { Starts image.old }
-    requires out_len { length out.old ≡ 1362578 }
+fn draw(rt: &(impl Input + Print), image: &mut [u32], out: &mut [u8; MOST]) -> io::Result<()>
+    requires { Starts image.old }
 {
     replay(rt, image, out, false)?;
     let written = write_graph(out, image);

@@ -7,7 +7,9 @@ use Rattle.store.specs.Model.{no_entry}
 use Rattle.store.specs.declared.Entry.{Entry}
 use Rattle.property_table.specs.Slotted.{Slotted, slotted_take, byte_at, next_slot, widths-few}
 use Rattle.drawing.specs.Graph.{row_text, rows_text}
-use Rattle.drawing.specs.Parts.{Puts, Putting, one-put, all-put, room_for_one}
+use Rattle.lines.specs.declared.page.Page.{Page}
+use Rattle.lines.specs.Pages.{room, Adds}
+use Rattle.drawing.specs.Parts.{Adding, one_added, all_added, room_for_one}
 
 abbrev pub row_of : ℕ → Entry → List ℕ
 row_of i e = row_text e
@@ -21,25 +23,25 @@ slot_low {es} s i l =
     let few = widths-few (take (suc i) es) in
     omega arith
 
--- So many rows of the first entries are written.
-abbrev pub RowsTo : (count : ℕ) → List Entry → (before : List ℕ) (at : ℕ) (after : List ℕ) (done end : ℕ) → Type 0
-RowsTo count es before at after done end = Putting row_of 0 150 (take count es) before at after done end
+-- So many rows of the first entries are added.
+abbrev pub RowsTo : (count : ℕ) → List Entry → (before after : Page) (done : ℕ) → Type 0
+RowsTo count es before after done = Adding row_of 0 150 (take count es) before after done
 
 module _ (count : ℕ) (es : List Entry) (inside : count ≤ length es) where
   long : length (take count es) ≡ count
   long = length-take-le count es inside
 
-  module _ {before between : List ℕ} {at done seam : ℕ} (p : RowsTo count es before at between done seam) where
-    pub row_room : at + 150 * count ≤ length before → done < count → seam + 150 ≤ length between
-    row_room room l = room_for_one p (rw long room) (rw long l)
+  module _ {before between : Page} {done : ℕ} (p : RowsTo count es before between done) where
+    pub row_room : 150 * count ≤ room before → done < count → 150 ≤ room between
+    row_room left l = room_for_one p (rw long left) (rw long l)
 
-    pub row_put : {e : Entry} {after : List ℕ} {end : ℕ} → done < count → e ≡ get_or es done no_entry
-        → Puts between after seam (row_text e) 150 end → RowsTo count es before at after (done + 1) end
-    row_put l read q = one-put p no_entry (rw long l) (rw (get_or-take count es done no_entry l, ← read) q)
+    pub row_added : {e : Entry} {after : Page} → done < count → e ≡ get_or es done no_entry
+        → Adds between after (row_text e) 150 → RowsTo count es before after (done + 1)
+    row_added l read q = one_added p no_entry (rw long l) (rw (get_or-take count es done no_entry l, ← read) q)
 
-    pub rows-put : count ≤ done → Puts before between at (rows_text (take count es)) (150 * count) seam
+    pub rows_added : count ≤ done → Adds before between (rows_text (take count es)) (150 * count)
     unfolding rows_text
-    rows-put l = rw long at (all-put p (rw long l))
+    rows_added l = rw long at (all_added p (rw long l))
 
   -- What a row asks of its entry.
   pub row_fits : {i : ℕ} {e : Entry} → Slotted es → length es ≤ 2048 → i < count → e ≡ get_or es i no_entry

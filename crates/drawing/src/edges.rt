@@ -1,109 +1,105 @@
 // An edge for each edge in use, with the step that it stands for.
-ghost use Rattle.std.specs.Prelude.{◌+◌, ◌*◌, ◌≤◌, length};
+ghost use Rattle.std.specs.Prelude.{◌*◌, ◌≤◌, length};
 ghost use Rattle.slot.specs.Attributes.{most_stored};
 ghost use Rattle.store.specs.Model.{edge_at};
 ghost use Rattle.store.specs.Layout.{parse};
 ghost use Rattle.store.specs.Image.{Formed, Place};
 ghost use Rattle.theorems.specs.Facts.{Sound, Used};
-ghost use Rattle.drawing.specs.Parts.{Puts};
+ghost use Rattle.lines.specs.Pages.{room, Adds};
 ghost use Rattle.drawing.specs.Graph.{step_name, property_step_text, step_text};
 ghost use Rattle.drawing.specs.Graph.{ends, edge_text, texts};
 
-use crate::words::{write_attributes, write_key, write_numbered, write_word};
-use property_table::{OptionalProperty, find};
+use crate::words::{write_attributes, write_key};
+use lines::page::Page;
+use property_table::find;
 use store::image::{edge_count, get_edge};
 use store::{Edge, EdgeKind};
 
-fn write_step_name(out: &mut [u8], at: usize, image: &[u32], e: Edge) -> usize
+fn write_step_name(page: &mut Page<'_>, image: &[u32], e: Edge)
     requires formed { Formed image.now }
     requires sound { Sound (parse image.now) }
     requires used { Used (parse image.now) e.parent }
-    requires at_in_bounds { at + 10 ≤ length out.old }
-    ensures { Puts out.old out.new at (step_name (parse image.now) e) 10 result }
+    requires room { 10 ≤ room page.old }
+    ensures { Adds page.old page.new (step_name (parse image.now) e) 10 }
 {
-    let held = find(image, e.parent, e.label);
-    match held {
-        OptionalProperty::At(_) => write_word(out, at, b"configure "),
-        OptionalProperty::Nothing => write_word(out, at, b"insert "),
+    match find(image, e.parent, e.label) {
+        Some(_) => page.write_word(b"configure "),
+        None => page.write_word(b"insert "),
     }
 }
 
-fn write_property_step(out: &mut [u8], at: usize, image: &[u32], e: Edge) -> usize
+fn write_property_step(page: &mut Page<'_>, image: &[u32], e: Edge)
     requires formed { Formed image.now }
     requires sound { Sound (parse image.now) }
     requires used { Used (parse image.now) e.parent }
     requires attributes_le_most_stored { e.attributes ≤ most_stored }
-    requires at_in_bounds { at + 33 ≤ length out.old }
-    ensures { Puts out.old out.new at
-        (property_step_text (parse image.now) e) 33 result }
+    requires room { 33 ≤ room page.old }
+    ensures { Adds page.old page.new (property_step_text (parse image.now) e) 33 }
 {
-    let mut end = write_step_name(out, at, image, e);
-    end = write_key(out, end, e.label);
-    end = write_word(out, end, b" ");
-    write_attributes(out, end, e.attributes)
+    write_step_name(page, image, e);
+    write_key(page, e.label);
+    page.write_word(b" ");
+    write_attributes(page, e.attributes);
 }
 
-fn write_step(out: &mut [u8], at: usize, image: &[u32], e: Edge) -> usize
+fn write_step(page: &mut Page<'_>, image: &[u32], e: Edge)
     requires formed { Formed image.now }
     requires sound { Sound (parse image.now) }
     requires used { Used (parse image.now) e.parent }
     requires attributes_le_most_stored { e.attributes ≤ most_stored }
-    requires at_in_bounds { at + 33 ≤ length out.old }
-    ensures { Puts out.old out.new at (step_text (parse image.now) e) 33 result }
+    requires room { 33 ≤ room page.old }
+    ensures { Adds page.old page.new (step_text (parse image.now) e) 33 }
 {
     if e.kind == EdgeKind::PROTOTYPE {
-        return write_numbered(out, at, b"prototype ", e.label);
+        page.write_numbered(b"prototype ", e.label);
+    } else {
+        write_property_step(page, image, e);
     }
-    write_property_step(out, at, image, e)
 }
 
-fn write_ends(out: &mut [u8], at: usize, n: u32, e: Edge) -> usize
-    requires { at + 85 ≤ length out.old }
-    ensures { Puts out.old out.new at (ends n e) 85 result }
+fn write_ends(page: &mut Page<'_>, n: u32, e: Edge)
+    requires { 85 ≤ room page.old }
+    ensures { Adds page.old page.new (ends n e) 85 }
 {
     if e.child == 0 {
-        let mut end = write_numbered(out, at, b"e", n);
-        end = write_numbered(out, end, b" [shape=point]\ns", e.parent);
-        end = write_numbered(out, end, b" -> e", n);
-        return write_word(out, end, b"[style=dashed label=\" ");
+        page.write_numbered(b"e", n);
+        page.write_numbered(b" [shape=point]\ns", e.parent);
+        page.write_numbered(b" -> e", n);
+        page.write_word(b"[style=dashed label=\" ");
+        return;
     }
-    let mut end = write_numbered(out, at, b"s", e.parent);
-    end = write_numbered(out, end, b" -> s", e.child);
-    write_word(out, end, b"[label=\" ")
+    page.write_numbered(b"s", e.parent);
+    page.write_numbered(b" -> s", e.child);
+    page.write_word(b"[label=\" ");
 }
 
 // 85 bytes of ends, 33 of the step, and the label's end.
-fn write_edge(out: &mut [u8], at: usize, image: &[u32], n: u32) -> usize
+fn write_edge(page: &mut Page<'_>, image: &[u32], n: u32)
     requires formed { Formed image.now }
     requires sound { Sound (parse image.now) }
     requires place { Place (length (parse image.now).edges) n }
-    requires at_in_bounds { at + 121 ≤ length out.old }
-    ensures { Puts out.old out.new at
-        (edge_text (parse image.now) n (edge_at (parse image.now) n)) 121 result }
+    requires room { 121 ≤ room page.old }
+    ensures { Adds page.old page.new
+        (edge_text (parse image.now) n (edge_at (parse image.now) n)) 121 }
 {
     let e = get_edge(image, n);
     if e.parent == 0 {
-        return at;
+        return;
     }
-    let mut end = write_ends(out, at, n, e);
-    end = write_step(out, end, image, e);
-    write_word(out, end, b"\"]\n")
+    write_ends(page, n, e);
+    write_step(page, image, e);
+    page.write_word(b"\"]\n");
 }
 
-pub fn write_edges(out: &mut [u8], at: usize, image: &[u32]) -> usize
+pub fn write_edges(page: &mut Page<'_>, image: &[u32])
     requires formed { Formed image.now }
     requires sound { Sound (parse image.now) }
-    requires image_in_bounds { at + 121 * length (parse image.now).edges ≤ length out.old }
-    ensures { Puts out.old out.new at
+    requires room { 121 * length (parse image.now).edges ≤ room page.old }
+    ensures { Adds page.old page.new
         (texts (edge_text (parse image.now)) 1 (parse image.now).edges)
-        (121 * length (parse image.now).edges) result }
+        (121 * length (parse image.now).edges) }
 {
-    let count = edge_count(image);
-    let mut end = at;
-    let mut n = 0;
-    while n < count {
-        n += 1;
-        end = write_edge(out, end, image, n);
+    for before in 0..edge_count(image) {
+        write_edge(page, image, before + 1);
     }
-    end
 }

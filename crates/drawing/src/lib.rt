@@ -6,43 +6,33 @@ ghost use Rattle.store.specs.Layout.{parse};
 ghost use Rattle.store.specs.Image.{Formed};
 ghost use Rattle.theorems.specs.Facts.{Sound};
 ghost use Rattle.lines.specs.Writing.{Written};
-ghost use Rattle.drawing.specs.Parts.{Puts};
+ghost use Rattle.lines.specs.Pages.{room, Adds};
 ghost use Rattle.drawing.specs.Graph.{opening, graph_text};
 
 use crate::edges::write_edges;
 use crate::nodes::write_nodes;
-use crate::words::write_word;
+use lines::page::Page;
 
 mod edges;
 mod nodes;
 mod rows;
 mod words;
 
-fn write_opening(out: &mut [u8]) -> usize
-    requires { 400 ≤ length out.old }
-    ensures { Puts out.old out.new 0 opening 400 result }
+fn write_opening(page: &mut Page<'_>)
+    requires { 400 ≤ room page.old }
+    ensures { Adds page.old page.new opening 400 }
 {
-    let mut end = write_word(
-        out,
-        0,
+    page.write_word(
         b"digraph shapes {\nnodesep=0.5\nranksep=0.25\nfontname=\"Helvetica,Arial,sans-serif\"\n",
     );
-    end = write_word(
-        out,
-        end,
-        b"node [shape=plain fontname=\"Helvetica,Arial,sans-serif\"]\n",
+    page.write_word(b"node [shape=plain fontname=\"Helvetica,Arial,sans-serif\"]\n");
+    page.write_word(b"edge [fontname=\"Helvetica,Arial,sans-serif\"]\n");
+    page.write_word(
+        b"label=\"\\lA row is a storage place: slot index, key, attributes, what is stored.\\l",
     );
-    end = write_word(
-        out,
-        end,
-        b"edge [fontname=\"Helvetica,Arial,sans-serif\"]\n",
+    page.write_word(
+        b"w writable, e enumerable, c configurable, g get, s set. A dashed edge is dead.\\l\"\n",
     );
-    let rows =
-        b"label=\"\\lA row is a storage place: slot index, key, attributes, what is stored.\\l";
-    end = write_word(out, end, rows);
-    let letters =
-        b"w writable, e enumerable, c configurable, g get, s set. A dashed edge is dead.\\l\"\n";
-    write_word(out, end, letters)
 }
 
 // At the front of `out`. Answers where it ends.
@@ -55,8 +45,10 @@ pub fn write_graph(out: &mut [u8], image: &[u32]) -> usize
     ensures written { Written out.old out.new 0 (graph_text (parse image.now)) result }
     ensures upper_bound { result ≤ length out.old }
 {
-    let nodes_at = write_opening(out);
-    let edges_at = write_nodes(out, nodes_at, image);
-    let end = write_edges(out, edges_at, image);
-    write_word(out, end, b"}\n")
+    let mut page = Page { bytes: out, end: 0 };
+    write_opening(&mut page);
+    write_nodes(&mut page, image);
+    write_edges(&mut page, image);
+    page.write_word(b"}\n");
+    page.end
 }

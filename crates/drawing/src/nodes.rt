@@ -1,114 +1,105 @@
 // A node for each shape in use: its own words, and its keys.
-ghost use Rattle.std.specs.Prelude.{◌+◌, ◌*◌, ◌≤◌, length};
+ghost use Rattle.std.specs.Prelude.{◌*◌, ◌≤◌, length};
 ghost use Rattle.store.specs.Model.{shape_at};
 ghost use Rattle.store.specs.Layout.{parse};
 ghost use Rattle.store.specs.Image.{Formed, Place};
 ghost use Rattle.theorems.specs.Facts.{Sound};
 ghost use Rattle.property_table.specs.Readable.{Readable};
-ghost use Rattle.drawing.specs.Parts.{Puts};
+ghost use Rattle.lines.specs.Pages.{room, Adds};
 ghost use Rattle.drawing.specs.Graph.{state_text, title_text, counts_text, apart_text};
 ghost use Rattle.drawing.specs.Graph.{shape_text, node_text, texts};
 
 use crate::rows::write_rows;
-use crate::words::{write_numbered, write_word};
+use key_position::FirstEntries;
+use lines::page::Page;
 use store::image::{get_shape, shape_count};
 use store::{Shape, ShapeState};
 
-fn write_state(out: &mut [u8], at: usize, s: Shape) -> usize
-    requires { at + 12 ≤ length out.old }
-    ensures { Puts out.old out.new at (state_text s) 12 result }
+fn write_state(page: &mut Page<'_>, s: Shape)
+    requires { 12 ≤ room page.old }
+    ensures { Adds page.old page.new (state_text s) 12 }
 {
     if s.state == ShapeState::UNIQUE {
-        return write_word(out, at, b"</b>, unique");
+        page.write_word(b"</b>, unique");
+    } else {
+        page.write_word(b"</b>, shared");
     }
-    write_word(out, at, b"</b>, shared")
 }
 
-fn write_title(out: &mut [u8], at: usize, n: u32, s: Shape) -> usize
-    requires { at + 150 ≤ length out.old }
-    ensures { Puts out.old out.new at (title_text n s) 150 result }
+fn write_title(page: &mut Page<'_>, n: u32, s: Shape)
+    requires { 150 ≤ room page.old }
+    ensures { Adds page.old page.new (title_text n s) 150 }
 {
-    let table =
-        b" [label=<<table border=\"0\" cellborder=\"1\" cellspacing=\"0\" cellpadding=\"4\">\n";
-    let mut end = write_numbered(out, at, b"s", n);
-    end = write_word(out, end, table);
-    end = write_numbered(out, end, b"<tr><td colspan=\"4\"><b>shape ", n);
-    write_state(out, end, s)
+    page.write_numbered(b"s", n);
+    page.write_word(
+        b" [label=<<table border=\"0\" cellborder=\"1\" cellspacing=\"0\" cellpadding=\"4\">\n",
+    );
+    page.write_numbered(b"<tr><td colspan=\"4\"><b>shape ", n);
+    write_state(page, s);
 }
 
-fn write_counts(out: &mut [u8], at: usize, s: Shape) -> usize
-    requires { at + 81 ≤ length out.old }
-    ensures { Puts out.old out.new at (counts_text s) 81 result }
+fn write_counts(page: &mut Page<'_>, s: Shape)
+    requires { 81 ≤ room page.old }
+    ensures { Adds page.old page.new (counts_text s) 81 }
 {
-    let mut end = write_numbered(out, at, b"<br/>holds ", s.holds);
-    end = write_numbered(out, end, b", prototype ", s.prototype);
-    end = write_numbered(out, end, b"<br/>transitions ", s.transitions);
-    write_word(out, end, b"</td></tr>\n")
+    page.write_numbered(b"<br/>holds ", s.holds);
+    page.write_numbered(b", prototype ", s.prototype);
+    page.write_numbered(b"<br/>transitions ", s.transitions);
+    page.write_word(b"</td></tr>\n");
 }
 
-fn write_apart(out: &mut [u8], at: usize, n: u32, s: Shape) -> usize
-    requires { at + 70 ≤ length out.old }
-    ensures { Puts out.old out.new at (apart_text n s) 70 result }
+fn write_apart(page: &mut Page<'_>, n: u32, s: Shape)
+    requires { 70 ≤ room page.old }
+    ensures { Adds page.old page.new (apart_text n s) 70 }
 {
     if s.state != ShapeState::UNIQUE {
-        return at;
+        return;
     }
-    let end = write_numbered(
-        out,
-        at,
-        b"subgraph cluster_unique { label=\"unique shapes\" s",
-        n,
-    );
-    write_word(out, end, b" }\n")
+    page.write_numbered(b"subgraph cluster_unique { label=\"unique shapes\" s", n);
+    page.write_word(b" }\n");
 }
 
 // With 32 keys it has 5,200 bytes at most.
-fn write_shape(out: &mut [u8], at: usize, image: &[u32], n: u32, s: Shape) -> usize
+fn write_shape(page: &mut Page<'_>, image: &[u32], n: u32, s: Shape)
     requires formed { Formed image.now }
     requires readable { Readable (parse image.now) s }
     requires properties_bound { s.properties ≤ 32 }
-    requires at_in_bounds { at + 5200 ≤ length out.old }
-    ensures { Puts out.old out.new at
-        (shape_text (parse image.now) n s) 5200 result }
+    requires room { 5200 ≤ room page.old }
+    ensures { Adds page.old page.new (shape_text (parse image.now) n s) 5200 }
 {
-    let mut end = write_title(out, at, n, s);
-    end = write_counts(out, end, s);
-    end = write_rows(out, end, image, s.table, s.properties);
-    end = write_word(out, end, b"</table>>]\n");
-    write_apart(out, end, n, s)
+    write_title(page, n, s);
+    write_counts(page, s);
+    write_rows(page, image, FirstEntries::of(s));
+    page.write_word(b"</table>>]\n");
+    write_apart(page, n, s);
 }
 
-fn write_node(out: &mut [u8], at: usize, image: &[u32], n: u32) -> usize
+fn write_node(page: &mut Page<'_>, image: &[u32], n: u32)
     requires formed { Formed image.now }
     requires sound { Sound (parse image.now) }
     requires image_bound { (parse image.now).K ≤ 32 }
     requires place { Place (length (parse image.now).shapes) n }
-    requires at_in_bounds { at + 5200 ≤ length out.old }
-    ensures { Puts out.old out.new at
-        (node_text (parse image.now) n (shape_at (parse image.now) n)) 5200 result }
+    requires room { 5200 ≤ room page.old }
+    ensures { Adds page.old page.new
+        (node_text (parse image.now) n (shape_at (parse image.now) n)) 5200 }
 {
     let s = get_shape(image, n);
     if s.state == ShapeState::FREE {
-        return at;
+        return;
     }
-    write_shape(out, at, image, n, s)
+    write_shape(page, image, n, s);
 }
 
-pub fn write_nodes(out: &mut [u8], at: usize, image: &[u32]) -> usize
+pub fn write_nodes(page: &mut Page<'_>, image: &[u32])
     requires formed { Formed image.now }
     requires sound { Sound (parse image.now) }
     requires image_bound { (parse image.now).K ≤ 32 }
-    requires image_in_bounds { at + 5200 * length (parse image.now).shapes ≤ length out.old }
-    ensures { Puts out.old out.new at
+    requires room { 5200 * length (parse image.now).shapes ≤ room page.old }
+    ensures { Adds page.old page.new
         (texts (node_text (parse image.now)) 1 (parse image.now).shapes)
-        (5200 * length (parse image.now).shapes) result }
+        (5200 * length (parse image.now).shapes) }
 {
-    let count = shape_count(image);
-    let mut end = at;
-    let mut n = 0;
-    while n < count {
-        n += 1;
-        end = write_node(out, end, image, n);
+    for before in 0..shape_count(image) {
+        write_node(page, image, before + 1);
     }
-    end
 }

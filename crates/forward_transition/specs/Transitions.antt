@@ -4,7 +4,7 @@ use Rattle.std.specs.Prelude.{◌≡◌, ℕ, suc, ◌+◌, ◌%◌, ◌<◌, �
 use Rattle.std.proofs.Common.{inl, inr, ◌∙◌}
 use Rattle.std.proofs.Math.Option.{Option, none, some}
 use Rattle.std.proofs.Math.Path.{refl}
-use borrow.Author.Tests.{eqb-true, eqb-false, eq-eqb, ne_eqb}
+use borrow.Author.Tests.{eqb-true, eqb-false, ne_eqb}
 use native.Mathlib.Omega.{arith}
 use Rattle.std.proofs.lemmas.List.{length-map}
 use Rattle.std.specs.Prelude.{if◌then◌else◌}
@@ -15,11 +15,8 @@ use Rattle.store.specs.Image.{Formed, Place, Becomes, unchanged, and_then}
 use Rattle.store.specs.PlaceLaws.{FirstOrNone, first_or_none, lowest-first, lowest-none, put_back}
 use Rattle.store.specs.PlaceLaws.{at_map}
 use Rattle.store.specs.Passes.{Pass, of_edges, pass_start, pass_next}
-use Rattle.store.specs.ListLaws.{Decided, either}
 use Rattle.store.specs.declared.Edge.{Edge}
-use Rattle.rules.specs.declared.StepRecord.{StepRecord}
-use Rattle.rules.specs.Placing.{step_in}
-use Rattle.rules.specs.Steps.{edge_of, dead, prune, counter, put_counter, with_edges, pruned, counted}
+use Rattle.rules.specs.Steps.{dead, prune, counter, put_counter, with_edges, pruned, counted}
 use Rattle.forward_transition.specs.declared.Transition.{Transition}
 use Rattle.forward_transition.specs.declared.Transition.TheVariants.{Live, Dead, Absent}
 
@@ -34,22 +31,6 @@ module _ (o : Option Edge) {e : Edge} (found : some e ≡ o) where
 
   pub found_live : e.child ≢ 0 → Live e.child ≡ transition_of o
   found_live child = rw (← found, ne_eqb e.child 0 child)
-
--- ## The edge of a step
-
-module _ (n : ℕ) (t : StepRecord) (c : ℕ) where
-  abbrev edge : (kind attributes : ℕ) → Edge
-  edge kind a = record { parent = n; kind = kind; label = t.label; attributes = a; child = c }
-
-  pub prototype_edge : 1 < t.kind → edge 1 0 ≡ edge_of n (step_in t) c
-  prototype_edge high = rw (ne_eqb t.kind 0 (λ e. omega arith), ne_eqb t.kind 1 (λ e. omega arith))
-
-  pub property_edge : t.kind ≤ 1 → edge 0 t.attributes ≡ edge_of n (step_in t) c
-  property_edge low = go (either (t.kind == 0))
-    where
-      go : Decided (t.kind == 0) → edge 0 t.attributes ≡ edge_of n (step_in t) c
-      go (inl q) = rw q
-      go (inr q) = let some = eqb-false t.kind 0 q in rw (q, eq-eqb t.kind 1 (omega arith))
 
 -- ## A prune, edge by edge
 

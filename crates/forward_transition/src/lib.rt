@@ -2,7 +2,7 @@
 // A dead edge is one whose child was swept.
 #![tactic(auto)]
 
-ghost use Rattle.std.specs.Prelude.{◌≡◌, ◌+◌, ◌%◌, ◌≤◌, ◌&&◌, length, ◌==◌};
+ghost use Rattle.std.specs.Prelude.{◌≡◌, ◌+◌, ◌%◌, ◌≤◌, length};
 ghost use Rattle.store.specs.Lists.{first, keep, lowest};
 ghost use Rattle.store.specs.Layout.{parse};
 ghost use Rattle.store.specs.Image.{Formed, Place, Becomes};
@@ -12,12 +12,12 @@ ghost use Rattle.rules.specs.Steps.{edge_of, alike, dead, prune, with_edges, pru
 ghost use Rattle.rules.specs.Steps.{counter, set_counter, put_counter};
 ghost use Rattle.forward_transition.specs.Transitions.{transition_of, unless_dead, at_limit};
 
-use rules::StepRecord;
+use rules::Step;
 use store::image::{edge_count, get_edge, get_shape, lowest_free_edge, put_edge, put_shape};
-use store::rows::one_if;
-use store::{Counters, Edge, EdgeKind, StepKind};
+use store::{Counters, Edge, EdgeKind};
 
-// What the edges say of a step: its child, that its child was swept, or that none was made.
+// What the edges say of a step: its child, that its child was swept, or that none was made: three answers, which
+// no Option or Result has.
 #[derive(Clone, Copy)]
 pub enum Transition {
     Live(u32),
@@ -25,16 +25,12 @@ pub enum Transition {
     Absent,
 }
 
-fn belongs(e: Edge, parent: u32, kind: u32) -> bool
-    ensures { result ≡ (e.parent == parent && e.kind == kind) }
-{
-    e.parent == parent && e.kind == kind
-}
-
+// The same edge, but for its child. By hand, in two steps: with the derived == a scan takes a third longer, and an
+// insert that makes a child has to stay under twice the time of the C.
 fn agree(e: Edge, wanted: Edge) -> bool
     ensures { result ≡ alike wanted e }
 {
-    if belongs(wanted, e.parent, e.kind) {
+    if wanted.parent == e.parent && wanted.kind == e.kind {
         return wanted.label == e.label && wanted.attributes == e.attributes;
     }
     false
@@ -43,28 +39,28 @@ fn agree(e: Edge, wanted: Edge) -> bool
 fn is_dead(e: Edge, parent: u32, kind: u32) -> bool
     ensures { result ≡ dead parent kind e }
 {
-    belongs(e, parent, kind) && e.child == 0
+    e.parent == parent && e.kind == kind && e.child == 0
 }
 
 // A prototype's edge has no attributes.
-pub fn edge_of(parent: u32, t: StepRecord, child: u32) -> Edge
-    ensures { result ≡ edge_of parent (step_in t) child }
+pub fn edge_of(parent: u32, step: Step, child: u32) -> Edge
+    ensures { result ≡ edge_of parent (step_in step) child }
 {
-    if t.kind > StepKind::CONFIGURE {
-        return Edge {
+    match step {
+        Step::Insert { key, attributes } | Step::Configure { key, attributes } => Edge {
+            parent,
+            kind: EdgeKind::PROPERTY,
+            label: key,
+            attributes,
+            child,
+        },
+        Step::Prototype(to) => Edge {
             parent,
             kind: EdgeKind::PROTOTYPE,
-            label: t.label,
+            label: to,
             attributes: 0,
             child,
-        };
-    }
-    Edge {
-        parent,
-        kind: EdgeKind::PROPERTY,
-        label: t.label,
-        attributes: t.attributes,
-        child,
+        },
     }
 }
 
@@ -74,8 +70,7 @@ pub fn get(image: &[u32], wanted: Edge) -> Transition
     ensures { result ≡ transition_of (first (alike wanted) (parse image.now).edges) }
 {
     let count = edge_count(image);
-    let mut passed = 0;
-    while passed < count {
+    for passed in 0..count {
         let e = get_edge(image, passed + 1);
         if agree(e, wanted) {
             if e.child == 0 {
@@ -83,7 +78,6 @@ pub fn get(image: &[u32], wanted: Edge) -> Transition
             }
             return Transition::Live(e.child);
         }
-        passed += 1;
     }
     Transition::Absent
 }
@@ -97,17 +91,7 @@ fn free_if_dead(image: &mut [u32], place: u32, parent: u32, kind: u32)
         (unless_dead parent kind (edge_at (parse image.old) place))) }
 {
     if is_dead(get_edge(image, place), parent, kind) {
-        put_edge(
-            image,
-            place,
-            Edge {
-                parent: 0,
-                kind: 0,
-                label: 0,
-                attributes: 0,
-                child: 0,
-            },
-        );
+        put_edge(image, place, Edge::default());
     }
 }
 
@@ -118,10 +102,8 @@ pub fn prune(image: &mut [u32], parent: u32, kind: u32)
         (prune parent kind (parse image.old).edges)) }
 {
     let count = edge_count(image);
-    let mut done = 0;
-    while done < count {
+    for done in 0..count {
         free_if_dead(image, done + 1, parent, kind);
-        done += 1;
     }
 }
 
@@ -132,14 +114,13 @@ pub fn dead_edges(image: &[u32], parent: u32, kind: u32) -> u32
 {
     let count = edge_count(image);
     let mut found = 0;
-    let mut seen = 0;
-    while seen < count {
-        found += one_if(is_dead(get_edge(image, seen + 1), parent, kind));
-        seen += 1;
+    for seen in 0..count {
+        found += u32::from(is_dead(get_edge(image, seen + 1), parent, kind));
     }
     found
 }
 
+// A kind is a number here, an EdgeKind: `counter` in Steps.antt tells 0 from every other number.
 pub fn counter(counters: Counters, kind: u32) -> u32
     ensures { result ≡ counter kind counters }
 {
@@ -156,12 +137,12 @@ fn set_counter(counters: Counters, kind: u32, value: u32) -> Counters
     if kind == EdgeKind::PROPERTY {
         Counters {
             property: value,
-            prototype: counters.prototype,
+            ..counters
         }
     } else {
         Counters {
-            property: counters.property,
             prototype: value,
+            ..counters
         }
     }
 }
@@ -213,7 +194,7 @@ fn prune_at_limit(image: &mut [u32], parent: u32, kind: u32, old: u8)
 fn raised(old: u8) -> u8
     ensures { result ≡ (old + 1) % 256 }
 {
-    std::num::wrapping_add_u8(old, 1)
+    old.wrapping_add(1)
 }
 
 // An edge will be added: every 256th insertion prunes, as the counter wraps.

@@ -1,7 +1,7 @@
 -- The lowest free places for a shape and for a table of its own: what the search for them answers, and what
 -- the rule for a new shape gives by it.
 -- Assumes nothing.
-use Rattle.std.specs.Prelude.{Bool, true, false, List, ◌≢◌, ◌≡◌, refl, ℕ, eqb, length}
+use Rattle.std.specs.Prelude.{Bool, true, false, List, ◌≢◌, ◌≡◌, refl, ℕ, eqb, length, Err, Ok, Result}
 use Rattle.std.specs.Prelude.{if◌then◌else◌}
 use Rattle.store.specs.Lists.{lowest}
 use Rattle.store.specs.Model.{Table, Model, used, free, no_shape, free_shape, free_table, shape_at, table_at}
@@ -13,7 +13,6 @@ use Rattle.store.specs.declared.Shape.{Shape}
 use Rattle.store.specs.declared.Entry.{Entry}
 use Rattle.rules.specs.declared.Refusal.{Refusal}
 use Rattle.rules.specs.declared.Refusal.TheVariants.{ShapesFull, TablesFull}
-use Rattle.rules.specs.declared.Placement.TheVariants as placement
 use Rattle.rules.specs.Refusals.{ok, refused}
 use Rattle.rules.specs.Placing.{Places}
 use Rattle.rules.specs.Steps.{fresh}
@@ -25,17 +24,15 @@ use Rattle.theorems.specs.Grow.{free_unused}
 use Rattle.property_table.specs.Slotted.{good_slotted}
 use Rattle.property_table.specs.Copies.{Apart}
 use Rattle.fresh.specs.declared.FreePlaces.{FreePlaces}
-use Rattle.fresh.specs.declared.FreeRoom.{FreeRoom}
-use Rattle.fresh.specs.declared.FreeRoom.TheVariants.{At, Full}
 
-abbrev room_at : (shape table : ℕ) → FreeRoom
+abbrev room_at : (shape table : ℕ) → Result FreePlaces Refusal
 room_at n t =
-    if eqb n 0 then Full ShapesFull
-    else if eqb t 0 then Full TablesFull
-    else At (record { shape = n; table = t })
+    if eqb n 0 then Err ShapesFull
+    else if eqb t 0 then Err TablesFull
+    else Ok (record { shape = n; table = t })
 
 -- ShapesFull: "a shape is needed, no place free"; TablesFull: "a table is needed, no place free".
-abbrev pub free_room : Model → FreeRoom
+abbrev pub free_room : Model → Result FreePlaces Refusal
 free_room m = room_at (lowest free_shape 1 m.shapes) (lowest free_table 1 m.tables)
 
 -- Both places are free, and a new shape with its table is put there.
@@ -49,9 +46,9 @@ pub record Room (m : Model) (p : FreePlaces) : Type 0 where
       ≡ ok (put_shape (put_table m p.table (used es)) p.shape (shape p.table), p.shape)
 
 -- What an answer means to the rule.
-abbrev Says : Model → FreeRoom → Type 0
-Says m (At p) = Room m p
-Says m (Full r) = (shape : (table : ℕ) → Shape) (es : List Entry) → fresh m shape es ≡ refused r
+abbrev Says : Model → Result FreePlaces Refusal → Type 0
+Says m (Ok p) = Room m p
+Says m (Err r) = (shape : (table : ℕ) → Shape) (es : List Entry) → fresh m shape es ≡ refused r
 
 its_free : (t : Table) → free_table t ≡ true → t ≡ free
 its_free free e = refl
@@ -84,23 +81,23 @@ room_says m = go (eqb n 0) (eqb t 0) refl refl
 
 -- ## What code does with the answer
 
-module _ (m : Model) {r : FreeRoom} (answer : r ≡ free_room m) where
-  pub room : {p : FreePlaces} → r ≡ At p → Room m p
+module _ (m : Model) {r : Result FreePlaces Refusal} (answer : r ≡ free_room m) where
+  pub room : {p : FreePlaces} → r ≡ Ok p → Room m p
   room found = rw (← answer, found) at (room_says m)
 
   -- Where there is no room nothing is written,
-  pub fresh_refused : (ws : List ℕ) {x : Refusal} → r ≡ Full x
+  pub fresh_refused : (ws : List ℕ) {x : Refusal} → r ≡ Err x
       → (shape : (table : ℕ) → Shape) (es : List Entry)
-      → Places ws ws (fresh m shape es) (placement.Refused x)
+      → Places ws ws (fresh m shape es) (Err x)
   fresh_refused ws full shape es =
       let no_room = rw (← answer, full) at (room_says m) in
       rw (no_room shape es) (refl, refl)
 
   -- and where there is, the table and the shape.
-  pub fresh-put : {before after : List ℕ} {p : FreePlaces} → r ≡ At p
+  pub fresh-put : {before after : List ℕ} {p : FreePlaces} → r ≡ Ok p
       → (shape : (table : ℕ) → Shape) (es : List Entry)
       → Becomes before after (put_shape (put_table m p.table (used es)) p.shape (shape p.table))
-      → Places before after (fresh m shape es) (placement.At p.shape)
+      → Places before after (fresh m shape es) (Ok p.shape)
   fresh-put found shape es put = rw ((room found).gives shape es) (put, refl)
 
 -- The table is written first, and the place for the shape is still there.
@@ -126,10 +123,10 @@ module _ {m : Model} {p : FreePlaces} (room : Room m p) (sound : Sound m) (n : �
       }
 
 -- One after the other.
-pub fresh-made : {before now after : List ℕ} {r : FreeRoom} → r ≡ free_room (parse before)
-    → {p : FreePlaces} → r ≡ At p → (shape : (table : ℕ) → Shape) (es : List Entry)
+pub fresh-made : {before now after : List ℕ} {r : Result FreePlaces Refusal} → r ≡ free_room (parse before)
+    → {p : FreePlaces} → r ≡ Ok p → (shape : (table : ℕ) → Shape) (es : List Entry)
     → Becomes before now (put_table (parse before) p.table (used es))
     → Becomes now after (put_shape (parse now) p.shape (shape p.table))
-    → Places before after (fresh (parse before) shape es) (placement.At p.shape)
+    → Places before after (fresh (parse before) shape es) (Ok p.shape)
 fresh-made answer found shape es table stands =
     fresh-put _ answer found shape es (and_then table (rw table.parsed at stands))

@@ -12,9 +12,9 @@ ghost use Rattle.theorems.specs.Facts.{Sound, Used};
 ghost use Rattle.fresh.specs.Room.{free_room};
 
 use property_table::copy_entries;
-use rules::{Placement, Refusal};
+use rules::Refusal;
 use store::image::{get_shape, lowest_free_shape, lowest_free_table, put_shape, start_table};
-use store::{Counters, Shape, ShapeState};
+use store::{Shape, ShapeState};
 
 #[derive(Clone, Copy)]
 pub struct FreePlaces {
@@ -22,26 +22,20 @@ pub struct FreePlaces {
     pub table: u32,
 }
 
-#[derive(Clone, Copy)]
-pub enum FreeRoom {
-    At(FreePlaces),
-    Full(Refusal),
-}
-
 // Writes nothing, so that who asks before it writes is refused in time.
-pub fn free_places(image: &[u32]) -> FreeRoom
+pub fn free_places(image: &[u32]) -> Result<FreePlaces, Refusal>
     requires { Formed image.now }
     ensures { result ≡ free_room (parse image.now) }
 {
     let shape = lowest_free_shape(image);
     if shape == 0 {
-        return FreeRoom::Full(Refusal::ShapesFull);
+        return Err(Refusal::ShapesFull);
     }
     let table = lowest_free_table(image);
     if table == 0 {
-        return FreeRoom::Full(Refusal::TablesFull);
+        return Err(Refusal::TablesFull);
     }
-    FreeRoom::At(FreePlaces { shape, table })
+    Ok(FreePlaces { shape, table })
 }
 
 // A shape that no step has made.
@@ -65,16 +59,10 @@ fn put_standing(
         Shape {
             state,
             holds,
-            previous: 0,
-            step: 0,
-            transitions: 0,
             properties,
             prototype,
             table,
-            counters: Counters {
-                property: 0,
-                prototype: 0,
-            },
+            ..Shape::default()
         },
     );
 }
@@ -104,23 +92,18 @@ pub fn put_unique(
 }
 
 // A shape without keys.
-fn new_shape(image: &mut [u32], state: u32) -> Placement
+fn new_shape(image: &mut [u32], state: u32) -> Result<u32, Refusal>
     requires { Formed image.old }
     ensures { Places image.old image.new
         (fresh (parse image.old) (standing state 0 0 0) []) result }
 {
-    let room = free_places(image);
-    match room {
-        FreeRoom::Full(refusal) => Placement::Refused(refusal),
-        FreeRoom::At(places) => {
-            start_table(image, places.table);
-            put_standing(image, places.shape, state, 0, 0, 0, places.table);
-            Placement::At(places.shape)
-        }
-    }
+    let places = free_places(image)?;
+    start_table(image, places.table);
+    put_standing(image, places.shape, state, 0, 0, 0, places.table);
+    Ok(places.shape)
 }
 
-pub fn new_root(image: &mut [u32]) -> Placement
+pub fn new_root(image: &mut [u32]) -> Result<u32, Refusal>
     requires { Formed image.old }
     ensures { Places image.old image.new
         (fresh (parse image.old) root_shape []) result }
@@ -128,7 +111,7 @@ pub fn new_root(image: &mut [u32]) -> Placement
     new_shape(image, ShapeState::SHARED)
 }
 
-pub fn new_unique(image: &mut [u32]) -> Placement
+pub fn new_unique(image: &mut [u32]) -> Result<u32, Refusal>
     requires { Formed image.old }
     ensures { Places image.old image.new
         (fresh (parse image.old) (unique_shape 0 0 0) []) result }
@@ -137,7 +120,7 @@ pub fn new_unique(image: &mut [u32]) -> Placement
 }
 
 // The shape's own keys are the first of its table, which others may share.
-pub fn to_unique(image: &mut [u32], n: u32) -> Placement
+pub fn to_unique(image: &mut [u32], n: u32) -> Result<u32, Refusal>
     requires formed { Formed image.old }
     requires sound { Sound (parse image.old) }
     requires used { Used (parse image.old) n }
@@ -147,21 +130,16 @@ pub fn to_unique(image: &mut [u32], n: u32) -> Placement
         (shape_at (parse image.old) n).prototype)
         (entries (parse image.old) (shape_at (parse image.old) n))) result }
 {
-    let room = free_places(image);
-    match room {
-        FreeRoom::Full(refusal) => Placement::Refused(refusal),
-        FreeRoom::At(places) => {
-            let s = get_shape(image, n);
-            copy_entries(image, s.table, places.table, s.properties);
-            put_unique(
-                image,
-                places.shape,
-                0,
-                s.properties,
-                s.prototype,
-                places.table,
-            );
-            Placement::At(places.shape)
-        }
-    }
+    let places = free_places(image)?;
+    let s = get_shape(image, n);
+    copy_entries(image, s.table, places.table, s.properties);
+    put_unique(
+        image,
+        places.shape,
+        0,
+        s.properties,
+        s.prototype,
+        places.table,
+    );
+    Ok(places.shape)
 }

@@ -7,12 +7,11 @@ ghost use Rattle.store.specs.Layout.{tables_offset, edges_offset, total, header,
 ghost use Rattle.store.specs.Layout.{within, good_limits, good_header, formattable, formatted};
 
 use store::Limits;
-use store::rows::clear;
 
 fn is_within(low: u32, high: u32, n: u32) -> bool
     ensures { result ≡ within low high n }
 {
-    (low <= n) & (n <= high)
+    (low..=high).contains(&n)
 }
 
 fn tables_offset(l: Limits) -> usize
@@ -106,7 +105,7 @@ pub fn format(image: &mut [u32], l: Limits) -> bool
     if image.len() != total(l) {
         return false;
     }
-    clear(image);
+    image.fill(0);
     write_header(image, l);
     true
 }

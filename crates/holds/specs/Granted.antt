@@ -1,22 +1,19 @@
 -- A hold for what a rule has placed, and the laws of each way out.
 -- Assumes nothing.
-use Rattle.std.specs.Prelude.{Bool, true, false, not, List, ◌≡◌, refl, ℕ, zero, suc, ◌+◌, ◌-◌, ◌≤◌, ◌<◌, eqb, leb, length}
-use Rattle.std.proofs.Common.{true≢false, inl, inr, sym, ◌∙◌, ap, arith}
-use borrow.Author.Tests.{leb-true, leb-false, ne_eqb, not-true, not-false}
-use Rattle.store.specs.Model.{Model, shape_at, put_shape, free_shape}
+use Rattle.std.specs.Prelude.{if◌then◌else◌}
+use Rattle.std.specs.Prelude.{Bool, false, not, List, ◌≡◌, refl, ℕ, ◌≤◌, ◌<◌, leb, length, Err, Ok, Result}
+use Rattle.std.proofs.Common.{inl, inr, sym, ◌∙◌, ap, arith}
+use borrow.Author.Tests.{leb-true, ne_eqb, not-true, not-false}
+use Rattle.store.specs.Model.{Model, shape_at, free_shape}
 use Rattle.store.specs.Layout.{words, parse}
-use Rattle.store.specs.Image.{Formed, Place, Becomes, unchanged, and_then}
+use Rattle.store.specs.Image.{Formed, Place, and_then}
 use Rattle.store.specs.ListLaws.{Decided, either, or-none}
 use Rattle.store.specs.declared.Shape.{Shape}
 use Rattle.rules.specs.declared.ChangeTransitionAction.{ChangeTransitionAction}
-use Rattle.rules.specs.declared.ChangeTransitionAction.TheVariants.{Nothing}
-use Rattle.rules.specs.declared.Refusal.TheVariants.{NoShape, HoldsFull}
-use Rattle.rules.specs.declared.Placement.{Placement}
-use Rattle.rules.specs.declared.Placement.TheVariants.{At, Refused}
-use Rattle.rules.specs.Shapes.{with_holds}
+use Rattle.rules.specs.declared.Refusal.{Refusal}
+use Rattle.rules.specs.declared.Refusal.TheVariants.{NoShape}
 use Rattle.rules.specs.Refusals.{Got, ok, refused, ◌>>=◌}
-use Rattle.rules.specs.Calls.{Answer, Given, Done, Reply, No, Yes, grant, unheld, perform, hold, previous}
-use Rattle.rules.specs.Calls.{release}
+use Rattle.rules.specs.Calls.{Answer, Reply, grant, unheld}
 use Rattle.rules.specs.Steps.{Placed}
 use Rattle.rules.specs.Placing.{Places}
 use Rattle.rules.specs.Replies.{Answers}
@@ -25,14 +22,14 @@ use Rattle.theorems.specs.Changes.{may_act}
 use Rattle.theorems.specs.CallsKeep.{previous_gives}
 
 -- The place of a result.
-abbrev pub InPlace : Model → Placement → Type 0
-InPlace m (At n) = Place (length m.shapes) n
-InPlace m (Refused r) = Unit {0}
+abbrev pub InPlace : Model → Result ℕ Refusal → Type 0
+InPlace m (Ok n) = Place (length m.shapes) n
+InPlace m (Err r) = Unit {0}
 
 -- A hold for it, or its refusal.
-abbrev pub grant_placed : ChangeTransitionAction → Model → Placement → Got (Model × Answer)
-grant_placed action m (At n) = grant action (m, n)
-grant_placed action m (Refused r) = refused r
+abbrev pub grant_placed : ChangeTransitionAction → Model → Result ℕ Refusal → Got (Model × Answer)
+grant_placed action m (Ok n) = grant action (m, n)
+grant_placed action m (Err r) = refused r
 
 -- ## Which shapes a call may name
 
@@ -52,113 +49,58 @@ module _ (m : Model) (n : ℕ) where
       go (inl f) = rw f
       go (inr u) = absurd (omega (arith, (used_place_inside m n u).high))
 
-  module _ {s : Shape} (read : s ≡ its) where
-    pub free_there : s.state ≡ 0 → not (eqb s.state 0) ≡ not (unheld m n)
-    free_there z = rw (← read, z)
-
-    -- "or without holds"
-    pub used_there : (s.state ≡ 0 → ⊥) → not (eqb s.holds 0) ≡ not (unheld m n)
-    used_there ne = rw (← read, ne_eqb s.state 0 ne) (go (eqb s.holds 0))
-      where
-        go : (b : Bool) → not b ≡ not (not (not b))
-        go true = refl
-        go false = refl
-
   -- What the test says.
-  module _ {r : Bool} (test : r ≡ not (unheld m n)) where
-    pub not-held : not r ≡ true → unheld m n ≡ true
-    not-held e = not-false (unheld m n) (sym test ∙ not-true r e)
-
-    pub may_name : not r ≡ false → unheld m n ≡ false
-    may_name e = not-true (unheld m n) (sym test ∙ not-false r e)
+  pub may_name : {r : Bool} → r ≡ not (unheld m n) → not r ≡ false → unheld m n ≡ false
+  may_name {r} test e = not-true (unheld m n) (sym test ∙ not-false r e)
 
   module _ (may : unheld m n ≡ false) where
     pub held_place : Place (length m.shapes) n
     held_place = used_place_inside m n (or-none (free_shape its) may).0
 
-    pub some_holds : 1 ≤ its.holds
-    some_holds = go its.holds (or-none (free_shape its) may).1
-      where
-        go : (h : ℕ) → not (not (eqb h 0)) ≡ false → 1 ≤ h
-        go zero e = absurd (true≢false e)
-        go (suc h) e = omega arith
+-- ## The shape that a call names
 
--- ## One hold more
+-- NoShape: "place 0, above S, free, or without holds".
+abbrev pub held : Model → ℕ → Result Shape Refusal
+held m n = if unheld m n then Err NoShape else Ok (shape_at m n)
 
-pub room_for_one : {x s : Shape} {full : Bool} → s ≡ x → full ≡ leb 65535 x.holds → full ≡ false
-    → s.holds < 65535
-room_for_one {x} read test few = rw read (leb-false 65535 x.holds (sym test ∙ few))
+pub record Named (m : Model) (n : ℕ) (s : Shape) : Type 0 where
+  pub may : unheld m n ≡ false
+  pub read : s ≡ shape_at m n
+  pub place : Place (length m.shapes) n
 
-module _ (before : List ℕ) (n : ℕ) (action : ChangeTransitionAction) where
-  abbrev m : Model
-  m = parse before
+abbrev Says : Model → ℕ → Result Shape Refusal → Type 0
+Says m n (Ok s) = Named m n s
+Says m n (Err x) = Unit {0}
 
-  module _ {full : Bool} (test : full ≡ leb 65535 (shape_at m n).holds) where
-    pub full_refused : full ≡ true → Answers before before (grant action (m, n)) (No HoldsFull)
-    full_refused most = rw (← test, most) (refl, refl)
+held_says : (m : Model) (n : ℕ) → Says m n (held m n)
+held_says m n = go (either (unheld m n))
+  where
+    go : Decided (unheld m n) → Says m n (held m n)
+    go (inl none) = rw none tt
+    go (inr may) = rw may record { may = may; read = refl; place = held_place m n may }
 
-    module _ (few : full ≡ false) {s : Shape} (read : s ≡ shape_at m n) where
-      pub hold_granted : {after : List ℕ} → Becomes before after (put_shape m n (with_holds s (s.holds + 1)))
-          → Answers before after (grant action (m, n)) (Yes (Given n action s.transitions))
-      hold_granted done = rw (← test, few, ← read) (done, refl)
+-- What the answer says.
+pub named : {m : Model} {n : ℕ} {r : Result Shape Refusal} {s : Shape} → r ≡ held m n → r ≡ Ok s → Named m n s
+named {m} {n} answer told = let told-by : held m n ≡ Ok _ = sym answer ∙ told in rw told-by at (held_says m n)
 
--- ## The calls
-
-module _ {before : List ℕ} (formed : Formed before) (n : ℕ) where
-  abbrev model : Model
-  model = parse before
-
-  module _ (none : unheld model n ≡ true) where
-    pub hold_refused : Answers before before (perform model (hold n)) (No NoShape)
-    unfolding perform
-    hold_refused = rw none (refl, refl)
-
-    pub previous_refused : Answers before before (perform model (previous n)) (No NoShape)
-    unfolding perform
-    previous_refused = rw none (refl, refl)
-
-    pub release_refused : Answers before before (perform model (release n)) (No NoShape)
-    unfolding perform
-    release_refused = rw none (refl, refl)
-
-  module _ (may : unheld model n ≡ false) where
-    pub hold_is : perform model (hold n) ≡ grant Nothing (model, n)
-    unfolding perform
-    hold_is = rw may
-
-    pub previous_none : {s : Shape} → s ≡ shape_at model n → s.previous ≡ 0
-        → Answers before before (perform model (previous n)) (Yes (Given 0 Nothing 0))
-    unfolding perform
-    previous_none read z = rw (may, ← read, z) (unchanged formed, refl)
-
-    module _ {s : Shape} (read : s ≡ shape_at model n) (some : s.previous ≡ 0 → ⊥) where
-      pub previous_is : perform model (previous n) ≡ grant Nothing (model, s.previous)
-      unfolding perform
-      previous_is = rw (may, ← read, ne_eqb s.previous 0 some)
-
-      pub previous_place : Sound model → Place (length model.shapes) s.previous
-      previous_place sound =
-          let acts = may_act model sound n may in
-          let other = ne_eqb s.previous 0 some in
-          let there = (previous_gives model sound n acts.is_used (rw (← read) other)).is_used in
-          rw read (used_place_inside model (shape_at model n).previous there)
-
-    pub released : {s : Shape} {after : List ℕ} → s ≡ shape_at model n
-        → Becomes before after (put_shape model n (with_holds s (s.holds - 1)))
-        → Answers before after (perform model (release n)) (Yes Done)
-    unfolding perform
-    released read done = rw (may, ← read) (done, refl)
+-- The shape before a held one stands at a place.
+pub previous_place : {m : Model} {n : ℕ} {s : Shape} → Sound m → Named m n s → (s.previous ≡ 0 → ⊥)
+    → Place (length m.shapes) s.previous
+previous_place {m} {n} {s} sound its other =
+    let acts = may_act m sound n its.may in
+    let there = (previous_gives m sound n acts.is_used (rw (← its.read) (ne_eqb s.previous 0 other))).is_used in
+    rw its.read (used_place_inside m (shape_at m n).previous there)
 
 -- ## A rule, and then a hold for its result
 
-module _ (before between : List ℕ) (formed : Formed before) (rule : Got Placed) (p : Placement)
+module _ (before between : List ℕ) (formed : Formed before) (rule : Got Placed) (p : Result ℕ Refusal)
     (did : Places before between rule p) where
   -- The result stands at a place, and the words are still laid out.
   pub result_place : ((y : Placed) → rule ≡ ok y → Used y.0 y.1)
       → Formed between × InPlace (parse between) p
   result_place in_use = go rule p did in_use
     where
-      go : (g : Got Placed) (p : Placement) → Places before between g p
+      go : (g : Got Placed) (p : Result ℕ Refusal) → Places before between g p
           → ((y : Placed) → g ≡ ok y → Used y.0 y.1) → Formed between × InPlace (parse between) p
       go (ok (m, n)) p (became, at) in_use =
           rw (at, became.parsed) (rw (← became.parsed) became.formed, used_place_inside m n (in_use (m, n) refl))
@@ -171,7 +113,7 @@ module _ (before between : List ℕ) (formed : Formed before) (rule : Got Placed
       → Answers before after (rule >>= grant action) reply
   rule-granted action after reply there granted = go rule p did there granted
     where
-      go : (g : Got Placed) (p : Placement) → Places before between g p
+      go : (g : Got Placed) (p : Result ℕ Refusal) → Places before between g p
           → ((y : Placed) → g ≡ ok y → 65535 ≤ (shape_at y.0 y.1).holds → y.0 ≡ parse before)
           → Answers between after (grant_placed action (parse between) p) reply
           → Answers before after (g >>= grant action) reply

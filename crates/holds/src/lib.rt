@@ -8,11 +8,11 @@ ghost use Rattle.store.specs.Image.{Formed, Place};
 ghost use Rattle.rules.specs.Calls.{unheld, grant, perform, hold, previous, release};
 ghost use Rattle.rules.specs.Replies.{Answers, shape_reply, done_reply};
 ghost use Rattle.theorems.specs.Facts.{Sound};
-ghost use Rattle.holds.specs.Granted.{InPlace, grant_placed};
+ghost use Rattle.holds.specs.Granted.{InPlace, grant_placed, held};
 
-use rules::{ChangeTransitionAction, DoneReply, GivenShape, Placement, Refusal, ShapeReply};
-use store::ShapeState;
+use rules::{ChangeTransitionAction, GivenShape, Refusal};
 use store::image::{get_shape, put_shape, shape_count};
+use store::{Shape, ShapeState};
 
 const MOST_HOLDS: u32 = 65535;
 
@@ -30,6 +30,17 @@ pub fn is_held(image: &[u32], n: u32) -> bool
     s.state != ShapeState::FREE && s.holds != 0
 }
 
+// The shape that a call names.
+pub fn held(image: &[u32], n: u32) -> Result<Shape, Refusal>
+    requires { Formed image.now }
+    ensures { result ≡ held (parse image.now) n }
+{
+    if !is_held(image, n) {
+        return Err(Refusal::NoShape);
+    }
+    Ok(get_shape(image, n))
+}
+
 pub fn is_full(image: &[u32], n: u32) -> bool
     requires formed { Formed image.now }
     requires place { Place (length (parse image.now).shapes) n }
@@ -40,20 +51,24 @@ pub fn is_full(image: &[u32], n: u32) -> bool
 }
 
 // "A call that returns a shape adds one hold to it".
-pub fn grant(image: &mut [u32], n: u32, action: ChangeTransitionAction) -> ShapeReply
+pub fn grant(
+    image: &mut [u32],
+    n: u32,
+    action: ChangeTransitionAction,
+) -> Result<GivenShape, Refusal>
     requires formed { Formed image.old }
     requires place { Place (length (parse image.old).shapes) n }
     ensures { Answers image.old image.new
         (grant action (parse image.old, n)) (shape_reply result) }
 {
     if is_full(image, n) {
-        return ShapeReply::Refused(Refusal::HoldsFull);
+        return Err(Refusal::HoldsFull);
     }
     let mut s = get_shape(image, n);
     let transitions = s.transitions;
     s.holds += 1;
     put_shape(image, n, s);
-    ShapeReply::Gives(GivenShape {
+    Ok(GivenShape {
         shape: n,
         action,
         transitions,
@@ -63,44 +78,38 @@ pub fn grant(image: &mut [u32], n: u32, action: ChangeTransitionAction) -> Shape
 // A refusal is handed on.
 pub fn grant_placed(
     image: &mut [u32],
-    placed: Placement,
+    placed: Result<u32, Refusal>,
     action: ChangeTransitionAction,
-) -> ShapeReply
+) -> Result<GivenShape, Refusal>
     requires formed { Formed image.old }
     requires in_place { InPlace (parse image.old) placed }
     ensures { Answers image.old image.new
         (grant_placed action (parse image.old) placed) (shape_reply result) }
 {
-    match placed {
-        Placement::At(n) => grant(image, n, action),
-        Placement::Refused(r) => ShapeReply::Refused(r),
-    }
+    grant(image, placed?, action)
 }
 
-pub fn hold(image: &mut [u32], n: u32) -> ShapeReply
+#[tactic(auto, unfolding(rules::specs::Calls::perform))]
+pub fn hold(image: &mut [u32], n: u32) -> Result<GivenShape, Refusal>
     requires { Formed image.old }
     ensures { Answers image.old image.new
         (perform (parse image.old) (hold n)) (shape_reply result) }
 {
-    if !is_held(image, n) {
-        return ShapeReply::Refused(Refusal::NoShape);
-    }
+    held(image, n)?;
     grant(image, n, ChangeTransitionAction::Nothing)
 }
 
 // "hold and previous (0, no hold, at a root or unique)"
-pub fn previous(image: &mut [u32], n: u32) -> ShapeReply
+#[tactic(auto, unfolding(rules::specs::Calls::perform))]
+pub fn previous(image: &mut [u32], n: u32) -> Result<GivenShape, Refusal>
     requires formed { Formed image.old }
     requires sound { Sound (parse image.old) }
     ensures { Answers image.old image.new
         (perform (parse image.old) (previous n)) (shape_reply result) }
 {
-    if !is_held(image, n) {
-        return ShapeReply::Refused(Refusal::NoShape);
-    }
-    let s = get_shape(image, n);
+    let s = held(image, n)?;
     if s.previous == 0 {
-        return ShapeReply::Gives(GivenShape {
+        return Ok(GivenShape {
             shape: 0,
             action: ChangeTransitionAction::Nothing,
             transitions: 0,
@@ -110,16 +119,14 @@ pub fn previous(image: &mut [u32], n: u32) -> ShapeReply
 }
 
 // "Release takes one."
-pub fn release(image: &mut [u32], n: u32) -> DoneReply
+#[tactic(auto, unfolding(rules::specs::Calls::perform))]
+pub fn release(image: &mut [u32], n: u32) -> Result<(), Refusal>
     requires { Formed image.old }
     ensures { Answers image.old image.new
         (perform (parse image.old) (release n)) (done_reply result) }
 {
-    if !is_held(image, n) {
-        return DoneReply::Refused(Refusal::NoShape);
-    }
-    let mut s = get_shape(image, n);
+    let mut s = held(image, n)?;
     s.holds -= 1;
     put_shape(image, n, s);
-    DoneReply::Succeeds
+    Ok(())
 }

@@ -1,19 +1,17 @@
 -- Where a key stands among entries: what a scan for it answers, and what the answer says.
 -- Assumes nothing.
-use Rattle.std.specs.Prelude.{Bool, true, false, List, [], ◌∷◌, ◌≢◌, ◌≡◌, refl, ℕ, suc, ◌+◌, ◌≤◌, ◌<◌, eqb, length, get_or, take}
+use Rattle.std.specs.Prelude.{Bool, true, false, List, [], ◌∷◌, ◌≢◌, ◌≡◌, refl, ℕ, suc, ◌+◌, ◌<◌, length, get_or, take, None, Option, Some}
 use Rattle.std.proofs.lemmas.Bool.{false≢true}
-use Rattle.std.proofs.Common.{inl, inr, sym, ◌∙◌, ap, arith, eqb-true, eq-eqb, ne_eqb, get_or-take, length-take-le}
+use Rattle.std.proofs.Common.{inl, inr, sym, ◌∙◌, ap, arith, eqb-true}
 use Rattle.std.proofs.Math.Option.{none, some}
 use Rattle.std.specs.Prelude.{if◌then◌else◌}
 use Rattle.slot.specs.declared.KeyPosition.{KeyPosition}
 use Rattle.store.specs.Model.{no_entry}
 use Rattle.store.specs.ListLaws.{Decided, either, or-none}
-use Rattle.store.specs.Scans.{Scan, scan_of, Scanning, stopped, went_on, ended}
+use Rattle.store.specs.Scans.{Scan, scan_of, Scanning}
 use Rattle.store.specs.declared.Entry.{Entry}
 use Rattle.rules.specs.Shapes.{is_key, has, attributes_in}
 use Rattle.rules.specs.Sweep.{found}
-use Rattle.key_position.specs.declared.OptionalPosition.{OptionalPosition}
-use Rattle.key_position.specs.declared.OptionalPosition.TheVariants.{At, Nothing}
 
 -- "a position counts keys": those before the first entry with that key; all of them, where none has it.
 abbrev pub keys_before : (key : ℕ) → List Entry → ℕ
@@ -21,8 +19,8 @@ keys_before k [] = 0
 keys_before k (e ∷ es) = if is_key k e then 0 else suc (keys_before k es)
 
 -- The position of a key, if one of the entries has it.
-abbrev pub position_of : (key : ℕ) → List Entry → OptionalPosition
-position_of k es = if has k es then At (record { 0 = keys_before k es }) else Nothing
+abbrev pub position_of : (key : ℕ) → List Entry → Option KeyPosition
+position_of k es = if has k es then Some (record { 0 = keys_before k es }) else None
 
 -- ## A scan of the first n
 
@@ -38,29 +36,6 @@ key_scan key =
 -- The scan, with i of them looked at.
 pub record Seeking (key : ℕ) (es : List Entry) (n i : ℕ) : Type 0 where
   pub scan : Scanning (key_scan key (take n es)) i (keys_before key (take n es))
-
-pub seek : (key : ℕ) (es : List Entry) (n : ℕ) → Seeking key es n 0
-seek key es n = record { scan = record { within = omega arith; same = omega arith } }
-
-module _ {key : ℕ} {es : List Entry} {n i : ℕ} (s : Seeking key es n i) (inside : n ≤ length es) where
-  many : n ≡ length (take n es)
-  many = sym (length-take-le n es inside)
-
-  module _ (l : i < n) {e : Entry} (read : e ≡ get_or es i no_entry) where
-    tested : eqb e.key key ≡ is_key key (get_or (take n es) i no_entry)
-    tested = rw (get_or-take n es i no_entry l, read)
-
-    pub seek_on : e.key ≢ key → Seeking key es n (i + 1)
-    seek_on other = record { scan = went_on s.scan many l tested (ne_eqb e.key key other) }
-
-    pub seek_found : e.key ≡ key → i ≡ keys_before key (take n es)
-    seek_found its = stopped s.scan many l tested (eq-eqb e.key key its)
-
-  pub seek_ended : n ≤ i → i ≡ keys_before key (take n es)
-  seek_ended l =
-      let within = s.scan.within in
-      let all = ended s.scan many l in
-      omega (arith, many)
 
 -- ## What the count says
 
@@ -112,38 +87,38 @@ absent k (e ∷ es) h =
 
 module _ (k : ℕ) (es : List Entry) {p : KeyPosition} (its : p.0 ≡ keys_before k es) {n : ℕ}
     (all : n ≡ length es) where
-  pub held-nowhere : p.0 ≡ n → Nothing ≡ position_of k es
+  pub held-nowhere : p.0 ≡ n → None ≡ position_of k es
   held-nowhere end = go (either (has k es))
     where
-      go : Decided (has k es) → Nothing ≡ position_of k es
+      go : Decided (has k es) → None ≡ position_of k es
       go (inl h) = absurd (let l = (stands k es h).inside in omega arith)
       go (inr h) = rw h
 
-  pub held_somewhere : p.0 ≢ n → At p ≡ position_of k es
+  pub held_somewhere : p.0 ≢ n → Some p ≡ position_of k es
   held_somewhere before = go (either (has k es))
     where
-      go : Decided (has k es) → At p ≡ position_of k es
+      go : Decided (has k es) → Some p ≡ position_of k es
       go (inl h) = rw (h, ← its)
       go (inr h) = absurd (before (its ∙ (absent k es h).0 ∙ sym all))
 
 module _ (k : ℕ) (es : List Entry) where
-  pub stands_at : {p : KeyPosition} → position_of k es ≡ At p → Stands k es p.0
+  pub stands_at : {p : KeyPosition} → position_of k es ≡ Some p → Stands k es p.0
   stands_at {p} e = go (either (has k es))
     where
       go : Decided (has k es) → Stands k es p.0
       go (inl h) =
-          let its : At (record { 0 = keys_before k es }) ≡ At p = rw h at e in
+          let its : Some (record { 0 = keys_before k es }) ≡ Some p = rw h at e in
           let same : record { 0 = keys_before k es } ≡ p = cc in
           rw (← same) (stands k es h)
       go (inr h) =
-          let its : Nothing ≡ At p = rw h at e in
+          let its : None ≡ Some p = rw h at e in
           absurd (let z : ◌≡◌ {A = ℕ} 0 1 = cc in omega arith)
 
-  pub stands_nowhere : position_of k es ≡ Nothing → Absent k es
+  pub stands_nowhere : position_of k es ≡ None → Absent k es
   stands_nowhere e = go (either (has k es))
     where
       go : Decided (has k es) → Absent k es
       go (inl h) =
-          let its : At (record { 0 = keys_before k es }) ≡ Nothing = rw h at e in
+          let its : Some (record { 0 = keys_before k es }) ≡ None = rw h at e in
           absurd (let z : ◌≡◌ {A = ℕ} 0 1 = cc in omega arith)
       go (inr h) = (absent k es h).1

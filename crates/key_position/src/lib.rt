@@ -2,61 +2,69 @@
 // first of it. This is the one scan for a key.
 #![tactic(auto)]
 
-ghost use Rattle.std.specs.Prelude.{◌≡◌, true, ◌≤◌, length, take};
-ghost use Rattle.store.specs.Model.{table_at, entries_of};
+ghost use Rattle.std.specs.Prelude.{◌≡◌, true, Some};
 ghost use Rattle.store.specs.Layout.{parse};
-ghost use Rattle.store.specs.Image.{Formed, Place};
+ghost use Rattle.store.specs.Image.{Formed};
 ghost use Rattle.rules.specs.Shapes.{has};
+ghost use Rattle.key_position.specs.First.{own, first_entries, AreThere};
 ghost use Rattle.key_position.specs.Positions.{keys_before, position_of};
-ghost use Rattle.key_position.specs.declared.OptionalPosition.TheVariants.{At};
 
 use slot::KeyPosition;
+use store::Shape;
 use store::image::get_entry;
 
+// The first entries of a table: a shape's own are the first of its table, which others may share.
 #[derive(Clone, Copy)]
-pub enum OptionalPosition {
-    At(KeyPosition),
-    Nothing,
+pub struct FirstEntries {
+    pub table: u32,
+    pub count: u32,
 }
 
-// Where none of the entries has the key, all of them stand before it: the answer is `count`, and no position.
-fn keys_before(image: &[u32], table: u32, count: u32, key: u32) -> KeyPosition
-    requires formed { Formed image.now }
-    requires place { Place (length (parse image.now).tables) table }
-    requires count_in_bounds { count ≤ length (entries_of (table_at (parse image.now) table)) }
-    ensures { result.0 ≡ keys_before key (take count (entries_of (table_at (parse image.now) table))) }
-{
-    let mut at = KeyPosition(0);
-    while at.0 < count {
-        let e = get_entry(image, table, at);
-        if e.key == key {
-            return at;
+impl FirstEntries {
+    // A shape's own.
+    pub fn of(s: Shape) -> FirstEntries
+        ensures { result ≡ own s }
+    {
+        FirstEntries {
+            table: s.table,
+            count: s.properties,
         }
-        at.0 += 1;
     }
-    at
 }
 
-pub fn position_of(image: &[u32], table: u32, count: u32, key: u32) -> OptionalPosition
+// Where none of the entries has the key, all of them stand before it: the answer is their count, and no position.
+fn keys_before(image: &[u32], first: FirstEntries, key: u32) -> KeyPosition
     requires formed { Formed image.now }
-    requires place { Place (length (parse image.now).tables) table }
-    requires count_in_bounds { count ≤ length (entries_of (table_at (parse image.now) table)) }
-    ensures { result ≡ position_of key (take count (entries_of (table_at (parse image.now) table))) }
+    requires there { AreThere (parse image.now) first }
+    ensures { result.0 ≡ keys_before key (first_entries (parse image.now) first) }
 {
-    let at = keys_before(image, table, count, key);
-    if at.0 == count {
-        return OptionalPosition::Nothing;
+    for at in 0..first.count {
+        let e = get_entry(image, first.table, KeyPosition(at));
+        if e.key == key {
+            return KeyPosition(at);
+        }
     }
-    OptionalPosition::At(at)
+    KeyPosition(first.count)
+}
+
+pub fn position_of(image: &[u32], first: FirstEntries, key: u32) -> Option<KeyPosition>
+    requires formed { Formed image.now }
+    requires there { AreThere (parse image.now) first }
+    ensures { result ≡ position_of key (first_entries (parse image.now) first) }
+{
+    let at = keys_before(image, first, key);
+    if at.0 == first.count {
+        return None;
+    }
+    Some(at)
 }
 
 // For a key that is known to be held there is no other answer.
-pub fn position_of_held(image: &[u32], table: u32, count: u32, key: u32) -> KeyPosition
+pub fn position_of_held(image: &[u32], first: FirstEntries, key: u32) -> KeyPosition
     requires formed { Formed image.now }
-    requires place { Place (length (parse image.now).tables) table }
-    requires count_in_bounds { count ≤ length (entries_of (table_at (parse image.now) table)) }
-    requires table_value { has key (take count (entries_of (table_at (parse image.now) table))) ≡ true }
-    ensures { At result ≡ position_of key (take count (entries_of (table_at (parse image.now) table))) }
+    requires there { AreThere (parse image.now) first }
+    requires held { has key (first_entries (parse image.now) first) ≡ true }
+    ensures { Some result ≡ position_of key (first_entries (parse image.now) first) }
 {
-    keys_before(image, table, count, key)
+    keys_before(image, first, key)
 }

@@ -3,9 +3,8 @@
 // and its slot index. Then the refusals that no short step file meets.
 #![tactic(auto)]
 
-use replies::{
-    ReplyNumbers, done_numbers, keys_numbers, lookup_numbers, question_numbers, shape_numbers,
-};
+use replies::done_numbers;
+use rules::{ChangeTransitionAction, GivenShape, Refusal};
 use std::io;
 use store::Limits;
 
@@ -20,16 +19,6 @@ const S: u32 = 1 << 30;
 
 // Kind 2, indexes.
 const INDEX_5: u32 = (2 << 30) + 5;
-
-// A step of a lesson is three words: one of these calls, which are no step kinds; a key or a prototype; and the
-// attributes, which the last two do not look at.
-const INSERT: u32 = 0;
-
-const CHANGE: u32 = 1;
-
-const REMOVE: u32 = 2;
-
-const PROTOTYPE: u32 = 3;
 
 // The first shape's state and counters, behind the header's 8 words.
 const ROOT_STATE: usize = 8;
@@ -46,321 +35,282 @@ const LIMITS: Limits = Limits {
     E: 1024,
 };
 
-fn new_root(image: &mut [u32]) -> ReplyNumbers {
-    shapes::format(image, LIMITS);
-    shape_numbers(shapes::root(image))
+// A step of a lesson: a key, and the attributes that it gets; or a prototype.
+#[derive(Clone, Copy)]
+enum Step {
+    Insert(u32, u32),
+    Change(u32, u32),
+    Remove(u32),
+    Prototype(u32),
 }
 
-fn new_unique(image: &mut [u32]) -> ReplyNumbers {
-    shapes::format(image, LIMITS);
-    shape_numbers(shapes::unique(image))
+// What ends the sheet before its end: a refusal, by its number, or a line that is not printed.
+#[derive(Debug, Drop)]
+enum Failure {
+    Refused(u32),
+    Unprinted(io::Error),
 }
 
-// A refusal gives shape 0, which every later step refuses too.
-fn take_step(
-    image: &mut [u32],
-    shape: u32,
-    kind: u32,
-    label: u32,
-    attributes: u32,
-) -> ReplyNumbers {
-    if kind == INSERT {
-        return shape_numbers(shapes::insert(image, shape, label, attributes));
+impl From<Refusal> for Failure {
+    fn from(refusal: Refusal) -> Failure {
+        Failure::Refused(done_numbers(Err(refusal)).refusal)
     }
-    if kind == CHANGE {
-        return shape_numbers(shapes::change(image, shape, label, attributes));
-    }
-    if kind == REMOVE {
-        return shape_numbers(shapes::remove(image, shape, label));
-    }
-    shape_numbers(shapes::set_prototype(image, shape, label))
 }
 
-// Each step from the shape that the one before has given.
-fn walk(image: &mut [u32], from: ReplyNumbers, steps: &[u32]) -> ReplyNumbers {
-    let mut reply = from;
-    let mut step = 0;
-    while step < steps.len() / 3 {
-        let at = 3 * step;
-        reply = take_step(image, reply.first, steps[at], steps[at + 1], steps[at + 2]);
-        step += 1;
+impl From<io::Error> for Failure {
+    fn from(error: io::Error) -> Failure {
+        Failure::Unprinted(error)
     }
-    reply
 }
 
-fn print_number(rt: &impl Print, before: &[u8], n: u32) -> io::Result<()> {
-    rt.write_all(before)?;
-    print!(rt; "{n}")
+fn action_name(action: ChangeTransitionAction) -> &'static str {
+    match action {
+        ChangeTransitionAction::Nothing => "Nothing",
+        ChangeTransitionAction::Remove => "Remove",
+        ChangeTransitionAction::Insert => "Insert",
+    }
 }
 
-fn key_name(key: u32) -> u8 {
+fn key_name(key: u32) -> char {
     match key {
-        A => b'a',
-        B => b'b',
-        C => b'c',
-        S => b's',
-        _ => b'?',
+        A => 'a',
+        B => 'b',
+        C => 'c',
+        S => 's',
+        _ => '?',
     }
 }
 
-fn print_key(
-    rt: &impl Print,
-    before: &[u8],
-    image: &[u32],
-    shape: u32,
-    key: u32,
-) -> io::Result<()> {
-    let slot = lookup_numbers(shapes::lookup(image, shape, key));
-    let name = [key_name(key)];
-    rt.write_all(before)?;
-    rt.write_all(&name)?;
-    print_number(rt, b" ", slot.third)?;
-    print_number(rt, b" at ", slot.second)
+// The image that the lessons work on, and where they are printed.
+#[derive(Drop)]
+struct Sheet<'a, P: Print> {
+    rt: &'a P,
+    image: [u32; 18716],
 }
 
-fn print_keys(rt: &impl Print, image: &[u32], shape: u32) -> io::Result<()> {
-    let mut keys = [0u32; 4];
-    let count = keys_numbers(shapes::keys(image, shape, &mut keys)).first as usize;
-    let mut i = 0;
-    while i < 4 && i < count {
-        print_key(rt, b", ", image, shape, keys[i])?;
-        i += 1;
+// Steps.
+impl<P: Print> Sheet<'_, P> {
+    fn new_root(&mut self) -> Result<GivenShape, Refusal> {
+        shapes::format(&mut self.image, LIMITS)?;
+        shapes::root(&mut self.image)
     }
-    Ok(())
-}
 
-fn print_state(rt: &impl Print, image: &[u32], shape: u32) -> io::Result<()> {
-    if question_numbers(shapes::is_shared(image, shape)).first == 1 {
-        rt.write_all(b" shared")
-    } else {
-        rt.write_all(b" unique")
+    fn new_unique(&mut self) -> Result<GivenShape, Refusal> {
+        shapes::format(&mut self.image, LIMITS)?;
+        shapes::unique(&mut self.image)
     }
-}
 
-fn print_shape(rt: &impl Print, image: &[u32], shape: u32) -> io::Result<()> {
-    print_number(rt, b"shape ", shape)?;
-    print_state(rt, image, shape)?;
-    let count = question_numbers(shapes::transition_count(image, shape));
-    print_number(rt, b", count ", count.first)?;
-    let prototype = question_numbers(shapes::prototype(image, shape));
-    print_number(rt, b", prototype ", prototype.first)?;
-    print_keys(rt, image, shape)?;
-    rt.write_all(b"\n")
-}
+    fn take_step(&mut self, shape: u32, step: Step) -> Result<GivenShape, Refusal> {
+        let image = &mut self.image;
+        match step {
+            Step::Insert(key, attributes) => shapes::insert(image, shape, key, attributes),
+            Step::Change(key, attributes) => shapes::change(image, shape, key, attributes),
+            Step::Remove(key) => shapes::remove(image, shape, key),
+            Step::Prototype(to) => shapes::set_prototype(image, shape, to),
+        }
+    }
 
-fn print_action(rt: &impl Print, action: u32) -> io::Result<()> {
-    if action == 0 {
-        rt.write_all(b": Nothing, ")
-    } else if action == 1 {
-        rt.write_all(b": Remove, ")
-    } else {
-        rt.write_all(b": Insert, ")
+    // Each step from the shape that the one before has given.
+    fn walk(&mut self, from: GivenShape, steps: &[Step]) -> Result<GivenShape, Refusal> {
+        let mut given = from;
+        for step in steps {
+            given = self.take_step(given.shape, *step)?;
+        }
+        Ok(given)
+    }
+
+    // As many steps, each to another prototype.
+    fn long_trail(&mut self, steps: u32) -> Result<GivenShape, Refusal> {
+        let mut given = self.new_root()?;
+        for step in 1..=steps {
+            given = self.take_step(given.shape, Step::Prototype(step))?;
+        }
+        Ok(given)
     }
 }
 
-// The shape that some steps lead to, printed under the lesson's name.
-fn lesson(
-    rt: &impl Print,
-    name: &[u8],
-    image: &mut [u32],
-    from: ReplyNumbers,
-    steps: &[u32],
-) -> io::Result<ReplyNumbers> {
-    let reply = walk(image, from, steps);
-    rt.write_all(name)?;
-    print_action(rt, reply.second)?;
-    print_shape(rt, image, reply.first)?;
-    Ok(reply)
-}
-
-fn lesson_1(rt: &impl Print, image: &mut [u32]) -> io::Result<ReplyNumbers> {
-    let root = new_root(image);
-    let before_c = lesson(
-        rt,
-        b"1, before c",
-        image,
-        root,
-        &[INSERT, A, 7, INSERT, B, 14],
-    )?;
-    lesson(rt, b"1", image, before_c, &[INSERT, C, 7])
-}
-
-fn lessons_2_and_3(rt: &impl Print, image: &mut [u32], one: ReplyNumbers) -> io::Result<()> {
-    lesson(rt, b"2", image, one, &[REMOVE, B, 0])?;
-    lesson(rt, b"3", image, one, &[CHANGE, B, 7])?;
-    Ok(())
-}
-
-fn lesson_4(rt: &impl Print, image: &mut [u32], one: ReplyNumbers) -> io::Result<()> {
-    let changed = lesson(rt, b"4", image, one, &[CHANGE, A, 5])?;
-    lesson(rt, b"4, then", image, changed, &[REMOVE, C, 0])?;
-    Ok(())
-}
-
-fn lesson_5(rt: &impl Print, image: &mut [u32]) -> io::Result<()> {
-    let root = new_root(image);
-    let with_b = walk(image, root, &[INSERT, A, 7, INSERT, B, 7]);
-    lesson(rt, b"5", image, with_b, &[CHANGE, B, 5, REMOVE, A, 0])?;
-    Ok(())
-}
-
-fn lesson_6(rt: &impl Print, image: &mut [u32]) -> io::Result<()> {
-    let root = new_root(image);
-    let with_9 = walk(image, root, &[INSERT, A, 7, INSERT, B, 7, PROTOTYPE, 9, 0]);
-    lesson(
-        rt,
-        b"6",
-        image,
-        with_9,
-        &[INSERT, C, 7, PROTOTYPE, 0, 0, REMOVE, A, 0],
-    )?;
-    Ok(())
-}
-
-fn lesson_7(rt: &impl Print, image: &mut [u32]) -> io::Result<()> {
-    let unique = new_unique(image);
-    let old = lesson(
-        rt,
-        b"7",
-        image,
-        unique,
-        &[INSERT, A, 14, INSERT, B, 7, INSERT, C, 7],
-    )?;
-    lesson(rt, b"7, then", image, old, &[REMOVE, A, 0])?;
-    rt.write_all(b"7, the old one: ")?;
-    print_shape(rt, image, old.first)
-}
-
-fn lesson_8(rt: &impl Print, image: &mut [u32]) -> io::Result<()> {
-    let unique = new_unique(image);
-    lesson(
-        rt,
-        b"8",
-        image,
-        unique,
-        &[INSERT, A, 7, INSERT, B, 7, CHANGE, A, 14],
-    )?;
-    Ok(())
-}
-
-fn lesson_9(rt: &impl Print, image: &mut [u32]) -> io::Result<()> {
-    let root = new_root(image);
-    lesson(
-        rt,
-        b"9",
-        image,
-        root,
-        &[INSERT, S, 7, INSERT, A, 7, INSERT, INDEX_5, 7, INSERT, B, 7],
-    )?;
-    Ok(())
-}
-
-// As many steps, each to another prototype.
-fn long_trail(image: &mut [u32], steps: u32) -> ReplyNumbers {
-    let mut reply = new_root(image);
-    let mut step = 0;
-    while step < steps {
-        step += 1;
-        reply = take_step(image, reply.first, PROTOTYPE, step, 0);
+// Lines.
+impl<P: Print> Sheet<'_, P> {
+    fn print_key(&self, shape: u32, key: u32) -> Result<(), Failure> {
+        if let Some(slot) = shapes::lookup(&self.image, shape, key)? {
+            let name = key_name(key);
+            let attributes = slot.attributes.0;
+            let index = slot.index.0;
+            print!(self.rt; ", {name} {attributes} at {index}")?;
+        }
+        Ok(())
     }
-    reply
-}
 
-fn lesson_10(rt: &impl Print, image: &mut [u32]) -> io::Result<()> {
-    let before = long_trail(image, 1022);
-    let last_shared = lesson(rt, b"10, step 1023", image, before, &[PROTOTYPE, 1023, 0])?;
-    lesson(
-        rt,
-        b"10, step 1024",
-        image,
-        last_shared,
-        &[PROTOTYPE, 1024, 0],
-    )?;
-    Ok(())
-}
+    fn print_keys(&self, shape: u32) -> Result<(), Failure> {
+        let mut keys = [0; 4];
+        let count = shapes::keys(&self.image, shape, &mut keys)?;
+        for key in keys.iter().take(count as usize) {
+            self.print_key(shape, *key)?;
+        }
+        Ok(())
+    }
 
-fn new_children(image: &mut [u32], parent: u32, kind: u32, children: u32) {
-    let mut child = 0;
-    while child < children {
-        child += 1;
-        take_step(image, parent, kind, child, 7);
+    fn print_shape(&self, shape: u32) -> Result<(), Failure> {
+        let state = match shapes::is_shared(&self.image, shape)? {
+            1 => "shared",
+            _ => "unique",
+        };
+        let count = shapes::transition_count(&self.image, shape)?;
+        let prototype = shapes::prototype(&self.image, shape)?;
+        print!(self.rt; "shape {shape} {state}, count {count}, prototype {prototype}")?;
+        self.print_keys(shape)?;
+        println!(self.rt)?;
+        Ok(())
+    }
+
+    fn print_counters(&self, name: &str) -> io::Result<()> {
+        let property = self.image[ROOT_PROPERTY_COUNTER];
+        let prototype = self.image[ROOT_PROTOTYPE_COUNTER];
+        println!(self.rt; "{name}: counters {property} and {prototype}")
+    }
+
+    // By its number: 0 where a call that was to refuse has not.
+    fn print_refusal<T: Drop>(&self, event: &str, reply: Result<T, Refusal>) -> io::Result<()> {
+        let number = done_numbers(reply.map(|_| ())).refusal;
+        println!(self.rt; "{event}: refusal {number}")
     }
 }
 
-fn print_counters(rt: &impl Print, name: &[u8], image: &[u32]) -> io::Result<()> {
-    if image.len() <= ROOT_PROTOTYPE_COUNTER {
-        return Ok(());
+// Lessons.
+impl<P: Print> Sheet<'_, P> {
+    // The shape that some steps lead to, printed under the lesson's name.
+    fn lesson(
+        &mut self,
+        name: &str,
+        from: GivenShape,
+        steps: &[Step],
+    ) -> Result<GivenShape, Failure> {
+        let given = self.walk(from, steps)?;
+        let action = action_name(given.action);
+        print!(self.rt; "{name}: {action}, ")?;
+        self.print_shape(given.shape)?;
+        Ok(given)
     }
-    rt.write_all(name)?;
-    print_number(rt, b": counters ", image[ROOT_PROPERTY_COUNTER])?;
-    print_number(rt, b" and ", image[ROOT_PROTOTYPE_COUNTER])?;
-    rt.write_all(b"\n")
+
+    fn lessons_1_to_4(&mut self) -> Result<(), Failure> {
+        let root = self.new_root()?;
+        let steps = [Step::Insert(A, 7), Step::Insert(B, 14)];
+        let before_c = self.lesson("1, before c", root, &steps)?;
+        let one = self.lesson("1", before_c, &[Step::Insert(C, 7)])?;
+        self.lesson("2", one, &[Step::Remove(B)])?;
+        self.lesson("3", one, &[Step::Change(B, 7)])?;
+        let changed = self.lesson("4", one, &[Step::Change(A, 5)])?;
+        self.lesson("4, then", changed, &[Step::Remove(C)])?;
+        Ok(())
+    }
+
+    fn lesson_5(&mut self) -> Result<(), Failure> {
+        let root = self.new_root()?;
+        let with_b = self.walk(root, &[Step::Insert(A, 7), Step::Insert(B, 7)])?;
+        self.lesson("5", with_b, &[Step::Change(B, 5), Step::Remove(A)])?;
+        Ok(())
+    }
+
+    fn lesson_6(&mut self) -> Result<(), Failure> {
+        let root = self.new_root()?;
+        let steps = [Step::Insert(A, 7), Step::Insert(B, 7), Step::Prototype(9)];
+        let with_9 = self.walk(root, &steps)?;
+        let steps = [Step::Insert(C, 7), Step::Prototype(0), Step::Remove(A)];
+        self.lesson("6", with_9, &steps)?;
+        Ok(())
+    }
+
+    fn lesson_7(&mut self) -> Result<(), Failure> {
+        let unique = self.new_unique()?;
+        let steps = [Step::Insert(A, 14), Step::Insert(B, 7), Step::Insert(C, 7)];
+        let old = self.lesson("7", unique, &steps)?;
+        self.lesson("7, then", old, &[Step::Remove(A)])?;
+        print!(self.rt; "7, the old one: ")?;
+        self.print_shape(old.shape)
+    }
+
+    fn lesson_8(&mut self) -> Result<(), Failure> {
+        let unique = self.new_unique()?;
+        let steps = [Step::Insert(A, 7), Step::Insert(B, 7), Step::Change(A, 14)];
+        self.lesson("8", unique, &steps)?;
+        Ok(())
+    }
+
+    fn lesson_9(&mut self) -> Result<(), Failure> {
+        let root = self.new_root()?;
+        let steps = [
+            Step::Insert(S, 7),
+            Step::Insert(A, 7),
+            Step::Insert(INDEX_5, 7),
+            Step::Insert(B, 7),
+        ];
+        self.lesson("9", root, &steps)?;
+        Ok(())
+    }
+
+    fn lesson_10(&mut self) -> Result<(), Failure> {
+        let before = self.long_trail(1022)?;
+        let last_shared = self.lesson("10, step 1023", before, &[Step::Prototype(1023)])?;
+        self.lesson("10, step 1024", last_shared, &[Step::Prototype(1024)])?;
+        Ok(())
+    }
+
+    // The 256th child of one kind.
+    fn lesson_11<F: Fn(u32) -> Step>(&mut self, name: &str, step: F) -> Result<(), Failure>
+        requires { F.IsAlwaysCallable step }
+    {
+        let root = self.new_root()?;
+        for child in 1..=255 {
+            self.take_step(root.shape, step(child))?;
+        }
+        self.print_counters(name)?;
+        self.take_step(root.shape, step(256))?;
+        self.print_counters(name)?;
+        Ok(())
+    }
 }
 
-fn lesson_11(rt: &impl Print, name: &[u8], image: &mut [u32], kind: u32) -> io::Result<()> {
-    let root = new_root(image);
-    new_children(image, root.first, kind, 255);
-    print_counters(rt, name, image)?;
-    take_step(image, root.first, kind, 256, 7);
-    print_counters(rt, name, image)
+// Refusals.
+impl<P: Print> Sheet<'_, P> {
+    fn bad_size(&mut self) -> io::Result<()> {
+        let no_edges = Limits { E: 0, ..LIMITS };
+        let reply = shapes::format(&mut self.image, no_edges);
+        self.print_refusal("no edges", reply)
+    }
+
+    fn out_short(&mut self) -> Result<(), Failure> {
+        let root = self.new_root()?;
+        let given = self.walk(root, &[Step::Insert(A, 7), Step::Insert(B, 7)])?;
+        let reply = shapes::keys(&self.image, given.shape, &mut [0]);
+        self.print_refusal("a list of two keys into one word", reply)?;
+        Ok(())
+    }
+
+    fn damaged(&mut self) -> Result<(), Failure> {
+        let root = self.new_root()?;
+        // There is no state 3.
+        self.image[ROOT_STATE] = 3;
+        let reply = shapes::prototype(&self.image, root.shape);
+        self.print_refusal("a damaged image", reply)?;
+        Ok(())
+    }
 }
 
-fn print_refusal(rt: &impl Print, event: &[u8], reply: ReplyNumbers) -> io::Result<()> {
-    rt.write_all(event)?;
-    print_number(rt, b": refusal ", reply.refusal)?;
-    rt.write_all(b"\n")
-}
-
-fn bad_size(rt: &impl Print, image: &mut [u32]) -> io::Result<()> {
-    let no_edges = Limits {
-        S: 1026,
-        T: 256,
-        K: 4,
-        E: 0,
+fn main(rt: HostRuntime) -> Result<(), Failure> {
+    let mut sheet = Sheet {
+        rt: &rt,
+        image: [0; 18716],
     };
-    print_refusal(
-        rt,
-        b"no edges",
-        done_numbers(shapes::format(image, no_edges)),
-    )
-}
-
-fn out_short(rt: &impl Print, image: &mut [u32]) -> io::Result<()> {
-    let root = new_root(image);
-    let shape = walk(image, root, &[INSERT, A, 7, INSERT, B, 7]);
-    let mut list = [0u32; 1];
-    let reply = keys_numbers(shapes::keys(image, shape.first, &mut list));
-    print_refusal(rt, b"a list of two keys into one word", reply)
-}
-
-// There is no state 3.
-fn damage_root(image: &mut [u32]) {
-    if image.len() > ROOT_STATE {
-        image[ROOT_STATE] = 3;
-    }
-}
-
-fn damaged(rt: &impl Print, image: &mut [u32]) -> io::Result<()> {
-    let root = new_root(image);
-    damage_root(image);
-    let reply = question_numbers(shapes::prototype(image, root.first));
-    print_refusal(rt, b"a damaged image", reply)
-}
-
-fn main(rt: HostRuntime) -> io::Result<()> {
-    let mut image = [0u32; 18716];
-    let one = lesson_1(&rt, &mut image)?;
-    lessons_2_and_3(&rt, &mut image, one)?;
-    lesson_4(&rt, &mut image, one)?;
-    lesson_5(&rt, &mut image)?;
-    lesson_6(&rt, &mut image)?;
-    lesson_7(&rt, &mut image)?;
-    lesson_8(&rt, &mut image)?;
-    lesson_9(&rt, &mut image)?;
-    lesson_10(&rt, &mut image)?;
-    lesson_11(&rt, b"11, keys", &mut image, INSERT)?;
-    lesson_11(&rt, b"11, prototypes", &mut image, PROTOTYPE)?;
-    bad_size(&rt, &mut image)?;
-    out_short(&rt, &mut image)?;
-    damaged(&rt, &mut image)
+    sheet.lessons_1_to_4()?;
+    sheet.lesson_5()?;
+    sheet.lesson_6()?;
+    sheet.lesson_7()?;
+    sheet.lesson_8()?;
+    sheet.lesson_9()?;
+    sheet.lesson_10()?;
+    sheet.lesson_11("11, keys", |key| Step::Insert(key, 7))?;
+    sheet.lesson_11("11, prototypes", Step::Prototype)?;
+    sheet.bad_size()?;
+    sheet.out_short()?;
+    sheet.damaged()
 }

@@ -3,3 +3,4 @@ pub mod Reading
 pub mod Lines
 pub mod Decimal
 pub mod Writing
+pub mod Pages

@@ -1,20 +1,18 @@
 -- All numbers of a line, and the line itself.
 -- Assumes nothing.
-use Rattle.std.specs.Prelude.{Bool, true, false, List, [], ◌∷◌, ◌≡◌, refl, ℕ, ◌+◌, ◌≤◌, ◌<◌, eqb, length, get_or, drop}
+use Rattle.std.specs.Prelude.{Bool, true, false, List, [], ◌∷◌, ◌≡◌, refl, ℕ, ◌≤◌, ◌<◌, eqb, length, get_or, drop, None, Option as Maybe, Some}
 use Rattle.std.proofs.Math.Bool.{and-false}
-use Rattle.std.proofs.Common.{inl, inr, sym, ap, ◌∙◌, add-one, arith, lt-ltb, le-ltb, ne_eqb, eq-eqb, eqb-true, drop_of_length-le, drop-cons}
+use Rattle.std.proofs.Common.{inl, inr, sym, ◌∙◌, arith, lt-ltb, le-ltb, ne_eqb, eqb-true}
 use Rattle.std.proofs.Math.Option.{Option, none, some}
 use Rattle.std.specs.Prelude.{if◌then◌else◌}
 use Rattle.store.specs.ListLaws.{Decided, either}
 use Rattle.rules.specs.Runner.{space, on_first, parts, both, numbers, formed, command, line_call}
 use Rattle.lines.specs.declared.Command.{Command}
-use Rattle.lines.specs.declared.reading.NumberAt.{NumberAt}
-use Rattle.lines.specs.declared.reading.NumberRead.{NumberRead}
-use Rattle.lines.specs.declared.reading.NumberRead.TheVariants.{Reads, Bad as no_number}
+use Rattle.lines.specs.declared.Command.TheVariants.{BadLine}
 use Rattle.lines.specs.declared.reading.Numbers.{Numbers}
-use Rattle.lines.specs.declared.reading.Numbers.TheVariants.{Zero, One, Two, Three, Bad}
-use Rattle.lines.specs.Commands.{command_call, listed}
-use Rattle.lines.specs.Reading.{following, read_on, ReadsOn}
+use Rattle.lines.specs.declared.reading.Numbers.TheVariants.{Zero, One, Two, Three}
+use Rattle.lines.specs.Commands.{command_call}
+use Rattle.lines.specs.Reading.{following}
 
 -- ## The numbers
 
@@ -28,12 +26,11 @@ at_most_three (some (a ∷ b ∷ c ∷ [])) = some (a ∷ b ∷ c ∷ [])
 at_most_three (some (a ∷ b ∷ c ∷ d ∷ ns)) = none
 
 -- One number more.
-abbrev pub with_number : Numbers → ℕ → Numbers
-with_number Zero n = One n
-with_number (One a) n = Two a n
-with_number (Two a b) n = Three a b n
-with_number (Three a b c) n = Bad
-with_number Bad n = Bad
+abbrev pub with_number : Numbers → ℕ → Maybe Numbers
+with_number Zero n = Some (One n)
+with_number (One a) n = Some (Two a n)
+with_number (Two a b) n = Some (Three a b n)
+with_number (Three a b c) n = None
 
 -- Those read, with those that follow.
 abbrev before : Numbers → Option (List ℕ) → Option (List ℕ)
@@ -41,71 +38,11 @@ before Zero ns = at_most_three ns
 before (One a) ns = at_most_three (both (some a) ns)
 before (Two a b) ns = at_most_three (both (some a) (both (some b) ns))
 before (Three a b c) ns = at_most_three (both (some a) (both (some b) (both (some c) ns)))
-before Bad ns = none
-
-before-none : (r : Numbers) → before r none ≡ none
-before-none Zero = refl
-before-none (One a) = refl
-before-none (Two a b) = refl
-before-none (Three a b c) = refl
-before-none Bad = refl
-
-before_end : (r : Numbers) → before r (some []) ≡ listed r
-before_end Zero = refl
-before_end (One a) = refl
-before_end (Two a b) = refl
-before_end (Three a b c) = refl
-before_end Bad = refl
-
-before-next : (r : Numbers) (n : ℕ) (ns : Option (List ℕ))
-    → before r (both (some n) ns) ≡ before (with_number r n) ns
-before-next Zero n ns = refl
-before-next (One a) n ns = refl
-before-next (Two a b) n ns = refl
-before-next (Three a b c) n none = refl
-before-next (Three a b c) n (some ns) = refl
-before-next Bad n ns = refl
 
 -- Numbers were read up to here, and are followed by what is left.
 pub record ReadTo (line : List ℕ) (r : Numbers) (at : ℕ) : Type 0 where
   pub to : at ≤ length line
   pub same : before r (following (drop at line)) ≡ at_most_three (following (drop 1 line))
-
-pub read-start : {line : List ℕ} → 0 < length line → ReadTo line Zero 1
-read-start l = record { to = omega arith; same = refl }
-
-module _ {line : List ℕ} {r : Numbers} {at : ℕ} (read : ReadTo line r at) where
-  pub read_all : length line ≤ at → listed r ≡ at_most_three (following (drop 1 line))
-  read_all l = sym (before_end r) ∙ rw (drop_of_length-le line l) at read.same
-
-  ended : following (drop at line) ≡ none → none ≡ at_most_three (following (drop 1 line))
-  ended e = sym (before-none r) ∙ rw e at read.same
-
-  module _ (l : at < length line) where
-    pub not-a-space : (get_or line at 0 ≡ space → ⊥) → none ≡ at_most_three (following (drop 1 line))
-    not-a-space h = ended (rw (drop-cons line at 0 l, ne_eqb _ space h))
-
-    module _ (here : get_or line at 0 ≡ space) where
-      after : following (drop at line) ≡ numbers (parts space (drop (at + 1) line))
-      after = rw (drop-cons line at 0 l, eq-eqb _ space here, add-one)
-
-      module _ {n : NumberRead} (one : ReadsOn line (at + 1) n) where
-        pub not-a-number : n ≡ no_number → none ≡ at_most_three (following (drop 1 line))
-        not-a-number e = ended (after ∙ one.same ∙ rw e)
-
-        pub read_on_lem : {m : NumberAt} {s : Numbers} → n ≡ Reads m → s ≡ with_number r m.value
-            → ReadTo line s m.end
-        read_on_lem {m} e f =
-            record {
-              to = (rw e at one.ends).1;
-              same =
-                  rw f (sym (before-next r m.value (following (drop m.end line))))
-                  ∙ ap (before r) (sym (after ∙ one.same ∙ ap (read_on line) e))
-                  ∙ read.same;
-            }
-
-        pub further : {m : NumberAt} → n ≡ Reads m → at < m.end
-        further e = omega (arith, (rw e at one.ends).0)
 
 -- ## The whole line
 
@@ -158,14 +95,18 @@ few b (some (n ∷ m ∷ k ∷ j ∷ ns)) =
     many : (count : ℕ) → count ≤ 3 → eqb (length (n ∷ m ∷ k ∷ j ∷ ns)) count ≡ false
     many count l = ne_eqb _ count (λ e. omega arith)
 
-pub line_read : (line : List ℕ) {b : ℕ} (r : Numbers) (c : Command) → 0 < length line → length line ≤ 64
-    → b ≡ get_or line 0 0 → listed r ≡ at_most_three (following (drop 1 line))
-    → command_call c ≡ formed (b ∷ []) (listed r) → command_call c ≡ line_call line
+pub line_read : (line : List ℕ) {b : ℕ} {ns : Option (List ℕ)} (c : Command) → 0 < length line → length line ≤ 64
+    → b ≡ get_or line 0 0 → ns ≡ at_most_three (following (drop 1 line))
+    → command_call c ≡ formed (b ∷ []) ns → command_call c ≡ line_call line
 unfolding line_call
-line_read [] r c l m here e f = absurd (omega arith)
-line_read (b ∷ line) r c l m here e f =
+line_read [] c l m here e f = absurd (omega arith)
+line_read (b ∷ line) c l m here e f =
     rw (le-ltb 64 (length (b ∷ line)) m)
     (f ∙ rw (here, e) (few b (following line) ∙ sym (letter_alone b line)))
+
+pub none_read : (line : List ℕ) → 0 < length line → length line ≤ 64
+    → none ≡ at_most_three (following (drop 1 line)) → none ≡ line_call line
+none_read line l m e = line_read line BadLine l m refl e refl
 
 pub too_long : (line : List ℕ) → 64 < length line → none ≡ line_call line
 unfolding line_call

@@ -1,14 +1,13 @@
 -- One number read from the left, byte by byte: what is left of the line decides.
 -- Assumes nothing.
-use Rattle.std.specs.Prelude.{Bool, true, false, List, [], ◌∷◌, ◌≡◌, refl, ℕ, zero, suc, ◌+◌, ◌-◌, ◌*◌, ◌^◌, ◌≤◌, ◌<◌, eqb, leb, length, get_or, drop}
-use Rattle.std.proofs.Common.{true≢false, sym, ◌∙◌, add-one, arith, lt-ltb, le-ltb, leb-true, drop_of_length-le, drop-cons}
+use Rattle.std.specs.Prelude.{Bool, true, false, List, [], ◌∷◌, ◌≡◌, refl, ℕ, zero, suc, ◌+◌, ◌-◌, ◌*◌, ◌^◌, ◌≤◌, ◌<◌, eqb, leb, length, get_or, drop, None, Option as Maybe, Some}
+use Rattle.std.proofs.Common.{true≢false, sym, ◌∙◌, add-one, arith, le-ltb, leb-true, drop-cons}
 use Rattle.std.proofs.Math.Option.{Option, none, some}
 use Rattle.std.specs.Prelude.{if◌then◌else◌}
 use Rattle.store.specs.ListLaws.{and_both}
 use Rattle.store.specs.Layout.{within}
 use Rattle.rules.specs.Runner.{space, on_first, parts, decimal, below2^32, both, numbers}
-use Rattle.lines.specs.declared.reading.NumberRead.{NumberRead}
-use Rattle.lines.specs.declared.reading.NumberRead.TheVariants.{Reads, Bad}
+use Rattle.lines.specs.declared.reading.NumberAt.{NumberAt}
 
 -- A number ends here.
 abbrev pub stops : List ℕ → Bool
@@ -21,17 +20,17 @@ following [] = some []
 following (b ∷ bs) = if eqb b space then numbers (parts space bs) else none
 
 -- The numbers from a start on, once the first of them is read.
-abbrev pub read_on : List ℕ → NumberRead → Option (List ℕ)
-read_on line (Reads n) = both (some n.value) (following (drop n.end line))
-read_on line Bad = none
+abbrev pub read_on : List ℕ → Maybe NumberAt → Option (List ℕ)
+read_on line (Some n) = both (some n.value) (following (drop n.end line))
+read_on line None = none
 
 -- The number ends in the line, and not before its start.
-abbrev EndsIn : List ℕ → (start : ℕ) → NumberRead → Type 0
-EndsIn line start (Reads n) = (start ≤ n.end) × (n.end ≤ length line)
-EndsIn line start Bad = Unit {0}
+abbrev EndsIn : List ℕ → (start : ℕ) → Maybe NumberAt → Type 0
+EndsIn line start (Some n) = (start ≤ n.end) × (n.end ≤ length line)
+EndsIn line start None = Unit {0}
 
 -- What the reading of one number promises.
-pub record ReadsOn (line : List ℕ) (start : ℕ) (r : NumberRead) : Type 0 where
+pub record ReadsOn (line : List ℕ) (start : ℕ) (r : Maybe NumberAt) : Type 0 where
   pub same : numbers (parts space (drop start line)) ≡ read_on line r
   pub ends : EndsIn line start r
 
@@ -41,23 +40,6 @@ pub record ReadsOn (line : List ℕ) (start : ℕ) (r : NumberRead) : Type 0 whe
 abbrev onward : ℕ → List (List ℕ) → Option (List ℕ)
 onward v [] = both (below2^32 (some v)) (some [])
 onward v (p ∷ ps) = both (below2^32 (decimal v p)) (numbers ps)
-
-no_digits : (s : List ℕ) → stops s ≡ true → numbers (parts space s) ≡ none
-no_digits [] e = refl
-no_digits (b ∷ s) e = rw e
-
-digits_begin : (s : List ℕ) → stops s ≡ false → numbers (parts space s) ≡ onward 0 (parts space s)
-digits_begin [] e = absurd (true≢false e)
-digits_begin (b ∷ s) e = rw e (go (parts space s))
-  where
-    go : (ps : List (List ℕ)) → numbers (on_first b ps) ≡ onward 0 (on_first b ps)
-    go [] = refl
-    go (p ∷ ps) = refl
-
-digits_end : (v : ℕ) (s : List ℕ) → v < 2 ^ 32 → stops s ≡ true
-    → onward v (parts space s) ≡ both (some v) (following s)
-digits_end v [] l e = rw (lt-ltb v (2 ^ 32) l)
-digits_end v (b ∷ s) l e = rw (e, lt-ltb v (2 ^ 32) l)
 
 digit : (v b : ℕ) (s : List ℕ) → eqb b space ≡ false
     → onward v (parts space (b ∷ s))
@@ -98,9 +80,6 @@ pub stop_within : (line : List ℕ) {at : ℕ} → at < length line
     → eqb (get_or line at 0) space ≡ stops (drop at line)
 stop_within line {at} l = rw (drop-cons line at 0 l)
 
-pub stop_outside : (line : List ℕ) {at : ℕ} → length line ≤ at → true ≡ stops (drop at line)
-stop_outside line l = rw (drop_of_length-le line l)
-
 inside : (line : List ℕ) (at : ℕ) → stops (drop at line) ≡ false → at < length line
 inside [] zero e = absurd (true≢false e)
 inside [] (suc at) e = absurd (true≢false e)
@@ -116,19 +95,6 @@ pub record Digits (line : List ℕ) (start value end : ℕ) : Type 0 where
   pub small : value < 2 ^ 32
   pub same : numbers (parts space (drop start line)) ≡ onward value (parts space (drop end line))
 
-module _ {line : List ℕ} {start : ℕ} {t : Bool} (read : t ≡ stops (drop start line)) where
-  pub number_empty : t ≡ true → ReadsOn line start Bad
-  number_empty e = record { same = no_digits (drop start line) (sym read ∙ e); ends = tt }
-
-  pub number_begins : start ≤ length line → t ≡ false → Digits line start 0 start
-  number_begins l e =
-      record {
-        from = omega arith;
-        to = l;
-        small = omega arith;
-        same = digits_begin (drop start line) (sym read ∙ e);
-      }
-
 module _
     {line : List ℕ}
     {start value end : ℕ}
@@ -136,13 +102,6 @@ module _
     {t : Bool}
     (read : t ≡ stops (drop end line))
   where
-    pub number_done : t ≡ true → ReadsOn line start (Reads (record { value = value; end = end }))
-    number_done e =
-        record {
-          same = d.same ∙ digits_end value (drop end line) d.small (sym read ∙ e);
-          ends = (d.from, d.to);
-        }
-
     module _ (going : t ≡ false) where
       pub byte_there : end < length line
       byte_there = inside line end (sym read ∙ going)
@@ -157,16 +116,8 @@ module _
             let no_space : eqb b space ≡ false = rw here (stop_within line byte_there ∙ sym read ∙ going) in
             d.same ∙ rw left (digit value b (drop (end + 1) line) no_space)
 
-        pub digit_bad : within 48 57 b ≡ false → ReadsOn line start Bad
-        digit_bad e = record { same = next ∙ rw e; ends = tt }
-
         module _ (good : within 48 57 b ≡ true) where
-          pub digit_big : 2 ^ 32 ≤ 10 * value + (b - 48) → ReadsOn line start Bad
+          pub digit_big : 2 ^ 32 ≤ 10 * value + (b - 48) → ReadsOn line start None
           digit_big l =
               let rest = parts space (drop (end + 1) line) in
               record { same = next ∙ rw good (onward_big (10 * value + (b - 48)) rest l); ends = tt }
-
-          pub digit_on : 10 * value + (b - 48) < 2 ^ 32 → Digits line start (10 * value + (b - 48)) (end + 1)
-          digit_on l =
-              let from = d.from in
-              record { from = omega arith; to = omega (arith, byte_there); small = l; same = next ∙ rw good }

@@ -4,10 +4,11 @@
 ghost use Rattle.std.specs.Prelude.{◌≡◌, [], ◌∷◌};
 ghost use Rattle.std.proofs.Math.Option.{some};
 ghost use Rattle.rules.specs.Runner.{formed, line_call};
-ghost use Rattle.lines.specs.Commands.{command_call, listed};
+ghost use Rattle.lines.specs.Commands.{command_call, numbers_list};
 
 use crate::reading::{Numbers, read_numbers};
 
+pub mod page;
 pub mod reading;
 pub mod writing;
 
@@ -42,80 +43,49 @@ pub enum Command {
     Prototype(NewPrototype),
     Release(u32),
     Sweep,
+    // No error of `read_line`, which cannot fail: the runner answers it like any other.
+    // a line that asks for none of these: `read_line` cannot fail
     BadLine,
 }
 
 // Which letter takes how many numbers: "`R` root, `U` empty unique, `I h k a` insert, `C h k a` change,
 // `D h k` remove, `P h p` prototype, `F h` release, `S` sweep".
-fn without_numbers(letter: u8) -> Command
-    ensures { command_call result ≡ formed (letter ∷ []) (some []) }
-{
-    match letter {
-        b'R' => Command::Root,
-        b'U' => Command::Unique,
-        b'S' => Command::Sweep,
-        _ => Command::BadLine,
-    }
-}
-
-fn with_one(letter: u8, shape: u32) -> Command
-    ensures { command_call result ≡ formed (letter ∷ []) (some (shape ∷ [])) }
-{
-    match letter {
-        b'F' => Command::Release(shape),
-        _ => Command::BadLine,
-    }
-}
-
-fn with_two(letter: u8, shape: u32, other: u32) -> Command
-    ensures { command_call result ≡ formed (letter ∷ []) (some (shape ∷ other ∷ [])) }
-{
-    match letter {
-        b'D' => Command::Remove(KeyOf { shape, key: other }),
-        b'P' => Command::Prototype(NewPrototype { shape, to: other }),
-        _ => Command::BadLine,
-    }
-}
-
-fn with_three(letter: u8, shape: u32, key: u32, attributes: u32) -> Command
-    ensures { command_call result ≡ formed (letter ∷ []) (some (shape ∷ key ∷ attributes ∷ [])) }
-{
-    match letter {
-        b'I' => Command::Insert(KeyChange {
-            shape,
-            key,
-            attributes,
-        }),
-        b'C' => Command::Change(KeyChange {
-            shape,
-            key,
-            attributes,
-        }),
-        _ => Command::BadLine,
-    }
-}
-
 fn command_of(letter: u8, numbers: Numbers) -> Command
-    ensures { command_call result ≡ formed (letter ∷ []) (listed numbers) }
+    ensures { command_call result ≡ formed (letter ∷ []) (some (numbers_list numbers)) }
 {
-    match numbers {
-        Numbers::Zero => without_numbers(letter),
-        Numbers::One(shape) => with_one(letter, shape),
-        Numbers::Two(shape, other) => with_two(letter, shape, other),
-        Numbers::Three(shape, key, attributes) => with_three(letter, shape, key, attributes),
-        Numbers::Bad => Command::BadLine,
+    match (letter, numbers) {
+        (b'R', Numbers::Zero) => Command::Root,
+        (b'U', Numbers::Zero) => Command::Unique,
+        (b'S', Numbers::Zero) => Command::Sweep,
+        (b'F', Numbers::One(shape)) => Command::Release(shape),
+        (b'D', Numbers::Two(shape, key)) => Command::Remove(KeyOf { shape, key }),
+        (b'P', Numbers::Two(shape, to)) => Command::Prototype(NewPrototype { shape, to }),
+        (b'I', Numbers::Three(shape, key, attributes)) => Command::Insert(KeyChange {
+            shape,
+            key,
+            attributes,
+        }),
+        (b'C', Numbers::Three(shape, key, attributes)) => Command::Change(KeyChange {
+            shape,
+            key,
+            attributes,
+        }),
+        _ => Command::BadLine,
     }
 }
 
-// "at most 64 bytes", without the line feed; "any other line .. is BadLine"
+// "at most 64 bytes", without the line feed
+const LONGEST: usize = 64;
+
+// "any other line .. is BadLine"
 pub fn read_line(line: &[u8]) -> Command
     ensures { command_call result ≡ line_call line.now }
 {
-    if line.len() == 0 {
+    if line.is_empty() || line.len() > LONGEST {
         return Command::BadLine;
     }
-    if line.len() > 64 {
-        return Command::BadLine;
+    match read_numbers(line) {
+        Some(numbers) => command_of(line[0], numbers),
+        None => Command::BadLine,
     }
-    command_of(line[0], read_numbers(line))
 }

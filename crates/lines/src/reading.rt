@@ -1,8 +1,7 @@
 // The numbers after a line's letter: "Decimal, leading zeros allowed, single spaces, .. numbers below 2^32".
 ghost use Rattle.std.specs.Prelude.{◌≡◌, ◌≤◌, ◌<◌, length, drop};
-ghost use Rattle.store.specs.Layout.{within};
 ghost use Rattle.lines.specs.Commands.{listed};
-ghost use Rattle.lines.specs.Reading.{stops, following, ReadsOn};
+ghost use Rattle.lines.specs.Reading.{following, ReadsOn};
 ghost use Rattle.lines.specs.Lines.{at_most_three, with_number};
 
 const SPACE: u8 = b' ';
@@ -17,12 +16,6 @@ pub struct NumberAt {
     pub end: usize,
 }
 
-#[derive(Clone, Copy)]
-pub enum NumberRead {
-    Reads(NumberAt),
-    Bad,
-}
-
 // No line has more than three.
 #[derive(Clone, Copy)]
 pub enum Numbers {
@@ -30,83 +23,66 @@ pub enum Numbers {
     One(u32),
     Two(u32, u32),
     Three(u32, u32, u32),
-    Bad,
 }
 
-// A number ends at the next space or at the end of the line.
-fn stops_at(line: &[u8], at: usize) -> bool
-    ensures { result ≡ stops (drop at line.now) }
-{
-    if at < line.len() {
-        line[at] == SPACE
-    } else {
-        true
-    }
-}
-
-// The digits' bytes are 48 to 57.
-fn is_digit(byte: u8) -> bool
-    ensures { result ≡ within 48 57 byte }
-{
-    (b'0' <= byte) & (byte <= b'9')
-}
-
-// The number at `start`, of one digit at least.
-pub fn read_number(line: &[u8], start: usize) -> NumberRead
+// The number at `start`, of one digit at least. It ends at the next space or at the end of the line.
+pub fn read_number(line: &[u8], start: usize) -> Option<NumberAt>
     requires { start ≤ length line.now }
     ensures { ReadsOn line.now start result }
 {
-    if stops_at(line, start) {
-        return NumberRead::Bad;
+    if start == line.len() || line[start] == SPACE {
+        return None;
     }
     let mut value = 0u64;
-    let mut end = start;
-    while !stops_at(line, end) {
+    for end in start..line.len() {
         let byte = line[end];
-        if !is_digit(byte) {
-            return NumberRead::Bad;
+        if byte == SPACE {
+            return Some(NumberAt {
+                value: value as u32,
+                end,
+            });
+        }
+        if !byte.is_ascii_digit() {
+            return None;
         }
         value = 10 * value + (byte - b'0') as u64;
         if value >= BOUND {
-            return NumberRead::Bad;
+            return None;
         }
-        end += 1;
     }
-    NumberRead::Reads(NumberAt {
+    Some(NumberAt {
         value: value as u32,
-        end,
+        end: line.len(),
     })
 }
 
 // One number more.
-fn with_number(numbers: Numbers, value: u32) -> Numbers
+fn with_number(numbers: Numbers, value: u32) -> Option<Numbers>
     ensures { result ≡ with_number numbers value }
 {
     match numbers {
-        Numbers::Zero => Numbers::One(value),
-        Numbers::One(first) => Numbers::Two(first, value),
-        Numbers::Two(first, second) => Numbers::Three(first, second, value),
-        Numbers::Three(_, _, _) => Numbers::Bad,
-        Numbers::Bad => Numbers::Bad,
+        Numbers::Zero => Some(Numbers::One(value)),
+        Numbers::One(first) => Some(Numbers::Two(first, value)),
+        Numbers::Two(first, second) => Some(Numbers::Three(first, second, value)),
+        Numbers::Three(_, _, _) => None,
     }
 }
 
 // Those of the whole line; the letter is its first byte.
-pub fn read_numbers(line: &[u8]) -> Numbers
+pub fn read_numbers(line: &[u8]) -> Option<Numbers>
     requires { 0 < length line.now }
     ensures { listed result ≡ at_most_three (following (drop 1 line.now)) }
 {
     let mut numbers = Numbers::Zero;
     let mut at = 1;
+    // No `for`: `at` goes from one number's end to the next, as `following` in Reading.antt does.
     while at < line.len() {
         if line[at] != SPACE {
-            return Numbers::Bad;
+            return None;
         }
-        let NumberRead::Reads(next) = read_number(line, at + 1) else {
-            return Numbers::Bad;
-        };
-        numbers = with_number(numbers, next.value);
+        let next = read_number(line, at + 1)?;
+        numbers = with_number(numbers, next.value)?;
         at = next.end;
     }
-    numbers
+    Some(numbers)
 }

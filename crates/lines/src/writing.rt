@@ -1,33 +1,24 @@
-// How the four numbers of a reply are written.
+// The numbers of a reply written into lent bytes from a position on.
 ghost use Rattle.std.specs.Prelude.{[], ◌∷◌, ◌+◌, ◌≤◌, length};
 ghost use Rattle.lines.specs.Decimal.{decimal_digits};
-ghost use Rattle.lines.specs.Writing.{reply_text, Written, Ended};
+ghost use Rattle.lines.specs.Writing.{reply_text, Written};
 
-// In decimal, without leading zeros: the digits before the last first.
+use crate::page::Page;
+
+// In decimal, without leading zeros. Answers where it ends. Both functions are public, and stay beside the page's own.
 pub fn write_number(out: &mut [u8], at: usize, n: u32) -> usize
     requires { at + length (decimal_digits n) ≤ length out.old }
     ensures { Written out.old out.new at (decimal_digits n) result }
 {
-    if n < 10 {
-        out[at] = b'0' + n as u8;
-        return at + 1;
-    }
-    let end = write_number(out, at, n / 10);
-    out[end] = b'0' + (n % 10) as u8;
-    end + 1
+    let mut page = Page {
+        bytes: out,
+        end: at,
+    };
+    page.write_number(n);
+    page.end
 }
 
-// A number and the byte that ends it.
-fn write_ended(out: &mut [u8], at: usize, n: u32, ending: u8) -> usize
-    requires { at + 11 ≤ length out.old }
-    ensures { Ended out.old out.new at n ending result }
-{
-    let end = write_number(out, at, n);
-    out[end] = ending;
-    end + 1
-}
-
-// The four numbers with single spaces and a line feed, from `at` on. Answers where they end.
+// The four numbers with single spaces and a line feed. Answers where they end.
 pub fn write_reply(
     out: &mut [u8],
     at: usize,
@@ -41,8 +32,10 @@ pub fn write_reply(
         (reply_text (first ∷ second ∷ third ∷ fourth ∷ [])) result }
     ensures upper_bound { result ≤ at + 44 }
 {
-    let second_at = write_ended(out, at, first, b' ');
-    let third_at = write_ended(out, second_at, second, b' ');
-    let fourth_at = write_ended(out, third_at, third, b' ');
-    write_ended(out, fourth_at, fourth, b'\n')
+    let mut page = Page {
+        bytes: out,
+        end: at,
+    };
+    page.write_reply(first, second, third, fourth);
+    page.end
 }

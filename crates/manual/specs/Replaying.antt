@@ -1,6 +1,6 @@
 -- A line of the manual's lessons, and the image after it.
 -- Assumes nothing.
-use Rattle.std.specs.Prelude.{Bool, true, false, List, [], ◌∷◌, ◌≡◌, refl, ℕ, eqb, length, get_or, take}
+use Rattle.std.specs.Prelude.{Bool, true, false, List, ◌≡◌, ℕ, eqb, length, get_or, take}
 use Rattle.std.proofs.Common.{sym, ◌∙◌, arith, take_all}
 use Rattle.std.specs.Prelude.{if◌then◌else◌}
 use Rattle.store.specs.Model.{Model, blank}
@@ -13,10 +13,6 @@ use Rattle.stepping.specs.Answering.{answer_to, Starts}
 -- A line that begins with `#` names a lesson.
 abbrev pub named : List ℕ → Bool
 named line = eqb (get_or line 0 0) 35
-
-pub empty_line : (line : List ℕ) → length line ≡ 0 → false ≡ named line
-empty_line [] l = refl
-empty_line (b ∷ line) l = absurd (omega arith)
 
 -- A lesson starts with a new image; any other line is the step runner's.
 abbrev pub replayed : Model → (line : List ℕ) → Model

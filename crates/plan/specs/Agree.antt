@@ -1,7 +1,6 @@
 -- Two rules that agree: the same refusal of both, or results of both that fit.
 -- Assumes nothing.
 use Rattle.std.specs.Prelude.{Bool, true, false, List, ◌↔◌, ◌≡◌, refl, ℕ, eqb}
-use Rattle.std.proofs.Common.{arith}
 use Rattle.store.specs.Lists.{lowest}
 use Rattle.rules.specs.declared.Refusal.{Refusal}
 use Rattle.rules.specs.Refusals.{Got, ok, refused, ◌>>=◌, ◌>>◌, refuse, place}
@@ -19,21 +18,21 @@ pub data Agree {A B : Type 0} (R : A → B → Type 0) : Got A → Got B → Typ
 module _ {A B : Type 0} {R : A → B → Type 0} where
   pub same_refusal : {g : Got A} {h : Got B} → Agree R g h → (r : Refusal) → (h ≡ refused r) ↔ (g ≡ refused r)
   same_refusal (given x) r = (
-    λ e. let z : ◌≡◌ {A = ℕ} 0 1 = cc in absurd (omega arith),
-    λ e. let z : ◌≡◌ {A = ℕ} 0 1 = cc in absurd (omega arith),
+    λ e. absurd (cc),
+    λ e. absurd (cc),
   )
   same_refusal same r = (λ e. cc, λ e. cc)
 
   pub both_given : {g : Got A} {h : Got B} → Agree R g h → ((b : B) × (h ≡ ok b)) ↔ ((a : A) × (g ≡ ok a))
   both_given (given {a} {b} x) = (λ e. (a, refl), λ e. (b, refl))
   both_given same = (
-    λ e. let f = e.1 in let z : ◌≡◌ {A = ℕ} 0 1 = cc in absurd (omega arith),
-    λ e. let f = e.1 in let z : ◌≡◌ {A = ℕ} 0 1 = cc in absurd (omega arith),
+    λ e. let f = e.1 in absurd (cc),
+    λ e. let f = e.1 in absurd (cc),
   )
 
   pub agree_given : {g : Got A} {h : Got B} → Agree R g h → {a : A} → g ≡ ok a → (b : B) × R a b
   agree_given (given {a} {b} x) e = (b, rw (same_given e) at x)
-  agree_given same e = let z : ◌≡◌ {A = ℕ} 0 1 = cc in absurd (omega arith)
+  agree_given same e = absurd (cc)
 
 -- ## How it is built
 

@@ -1,23 +1,20 @@
 -- The edges that there are for steps, as code looks them up.
 -- Assumes nothing.
-use Rattle.std.specs.Prelude.{Bool, true, false, ◌||◌, List, [], ◌∷◌, ◌≢◌, ◌≡◌, refl, ℕ, suc, ◌+◌, ◌-◌, ◌≤◌, eqb, length, drop}
-use Rattle.std.proofs.Common.{inl, inr, sym, ap, ◌∙◌, add-zero, zero-add, add-one, arith, eqb-true, ne_eqb, length-drop}
+use Rattle.std.specs.Prelude.{Bool, true, false, ◌||◌, List, [], ◌∷◌, ◌≢◌, ◌≡◌, refl, ℕ, suc, ◌+◌, ◌≤◌, eqb, length, drop}
+use Rattle.std.proofs.Common.{inl, inr, sym, ap, ◌∙◌, add-zero, zero-add, add-one, arith, eqb-true, ne_eqb}
 use Rattle.std.proofs.Math.Option.{Option, none, some}
-use Rattle.std.proofs.lemmas.List.{length-map}
 use Rattle.std.specs.Prelude.{if◌then◌else◌}
 use Rattle.store.specs.Lists.{first}
 use Rattle.store.specs.Model.{Model, shape_at}
 use Rattle.store.specs.ListLaws.{Decided, either, length-keep}
 use Rattle.store.specs.declared.Shape.{Shape}
 use Rattle.store.specs.declared.Edge.{Edge}
-use Rattle.rules.specs.Placing.{step_in}
 use Rattle.rules.specs.Steps.{Step, edge_of, edge_kind, alike, dead, counter}
-use Rattle.steps.specs.Records.{records, steps_in}
 use Rattle.forward_transition.specs.Transitions.{transition_of}
 use Rattle.forward_transition.specs.declared.Transition.{Transition}
 use Rattle.forward_transition.specs.declared.Transition.TheVariants.{Live, Dead, Absent}
 use Rattle.plan.specs.declared.Way.{Way}
-use Rattle.plan.specs.Plan.{edge_for, child_of, is_edge, further, follow, wraps, dead_edges, gives, first_gives}
+use Rattle.plan.specs.Plan.{edge_for, child_of, is_edge, follow, wraps, dead_edges, gives, first_gives}
 
 -- ## The edge for a step was looked up
 
@@ -84,58 +81,34 @@ few_given m n (t ∷ ts) = go (is_edge (edge_for m n t) || wraps m n (edge_kind 
 
 -- ## Along live edges
 
-module _ (ts : List Step) (m : Model) (from start : ℕ) where
+module _ (ts : List Step) (m : Model) (from : ℕ) where
   -- The way, with so many steps before it.
   abbrev ahead : ℕ → Way → Way
   ahead k w = record { found = k + w.found; place = w.place }
 
-  -- The steps from `start` to `at` have live edges, and lead to the place.
-  pub record Following (at place : ℕ) : Type 0 where
-    pub low : start ≤ at
-    pub rest : ahead (at - start) (follow (drop at ts) m place) ≡ follow (drop start ts) m from
+  -- The first steps have live edges, and lead to the place.
+  pub record Following (found place : ℕ) : Type 0 where
+    pub rest : ahead found (follow (drop found ts) m place) ≡ follow ts m from
 
-  pub follow-start : Following start from
-  follow-start =
-      let here : start - start ≡ 0 = omega arith in
-      record { low = omega arith; rest = rw (here, zero-add) refl }
+  pub follow-start : Following 0 from
+  follow-start = record { rest = rw zero-add refl }
 
-  module _ {at place : ℕ} (f : Following at place) where
+  module _ {found place : ℕ} (f : Following found place) where
     abbrev Ends : Type 0
-    Ends = record { found = at - start; place = place } ≡ follow (drop start ts) m from
+    Ends = record { found = found; place = place } ≡ follow ts m from
 
-    pub follow_end : drop at ts ≡ [] → Ends
+    pub follow_end : drop found ts ≡ [] → Ends
     follow_end all = rw (all, add-zero) at f.rest
 
-    module _ {t : Step} {child : ℕ} (next : drop at ts ≡ t ∷ drop (suc at) ts)
+    module _ {t : Step} {child : ℕ} (next : drop found ts ≡ t ∷ drop (suc found) ts)
         (its : child ≡ child_of (edge_for m place t)) where
       pub follow_stop : child ≡ 0 → Ends
       follow_stop new = rw (next, ← its, new, add-zero) at f.rest
 
-      pub follow_on : child ≢ 0 → Following (at + 1) child
+      pub follow_on : child ≢ 0 → Following (found + 1) child
       follow_on live =
-          let low = f.low in
-          let w = follow (drop (suc at) ts) m child in
-          let one : suc at - start + w.found ≡ at - start + suc w.found = omega arith in
+          let w = follow (drop (suc found) ts) m child in
+          let one : suc found + w.found ≡ found + suc w.found = omega arith in
           let rest = rw (next, ← its, ne_eqb child 0 live) at f.rest in
           rw add-one
-          (record { low = omega arith; rest = (λ i. record { found = one i; place = w.place }) ∙ rest })
-
-few-found : (ts : List Step) (m : Model) (n : ℕ) → (follow ts m n).found ≤ length ts
-few-found [] m n = omega arith
-few-found (t ∷ ts) m n = go (eqb c 0) (few-found ts m c)
-  where
-    c : ℕ
-    c = child_of (edge_for m n t)
-
-    go : (b : Bool) → (follow ts m c).found ≤ length ts
-        → (if b then record { found = 0; place = n } else further (follow ts m c)).found ≤ length (t ∷ ts)
-    go true few = omega arith
-    go false few = omega arith
-
-pub found_inside : (ws : List ℕ) (start : ℕ) (m : Model) (n : ℕ) → start ≤ length (records ws)
-    → start + (follow (drop start (steps_in ws)) m n).found ≤ length (records ws)
-found_inside ws start m n inside =
-    let few = few-found (drop start (steps_in ws)) m n in
-    let long = length-drop start (steps_in ws) in
-    let all = length-map (records ws) step_in in
-    omega arith
+          (record { rest = (λ i. record { found = one i; place = w.place }) ∙ rest })

@@ -1,59 +1,51 @@
 // The edges that there are for steps.
-ghost use Rattle.std.specs.Prelude.{◌≡◌, ◌≤◌, length, drop};
+ghost use Rattle.std.specs.Prelude.{◌≡◌, ◌≤◌, length, map};
 ghost use Rattle.store.specs.Layout.{parse};
 ghost use Rattle.store.specs.Image.{Formed, Place};
 ghost use Rattle.rules.specs.Placing.{step_in};
-ghost use Rattle.steps.specs.Records.{records, steps_in};
 ghost use Rattle.plan.specs.Plan.{edge_for, child_of, is_edge, follow, gives, first_gives};
 
 use crate::Way;
 use forward_transition::{Transition, counter, dead_edges, edge_of, get};
-use rules::StepRecord;
-use steps::{get_step, step_count};
+use rules::Step;
 use store::image::get_shape;
 
-// 0 where there is no edge, or a dead one.
-fn live_child(image: &[u32], place: u32, t: StepRecord) -> u32
+// 0 where there is no edge, or a dead one, as `child_of` in Plan.antt says.
+fn live_child(image: &[u32], place: u32, step: Step) -> u32
     requires { Formed image.now }
-    ensures { result ≡ child_of (edge_for (parse image.now) place (step_in t)) }
+    ensures { result ≡ child_of (edge_for (parse image.now) place (step_in step)) }
 {
-    match get(image, edge_of(place, t, 0)) {
+    match get(image, edge_of(place, step, 0)) {
         Transition::Live(child) => child,
         Transition::Dead => 0,
         Transition::Absent => 0,
     }
 }
 
-pub fn follow(image: &[u32], from: u32, steps: &[u32], start: usize) -> Way
-    requires formed { Formed image.now }
-    requires start_in_bounds { start ≤ length (records steps.now) }
-    ensures { result ≡ follow (drop start (steps_in steps.now)) (parse image.now) from }
+pub fn follow(image: &[u32], from: u32, steps: &[Step]) -> Way
+    requires { Formed image.now }
+    ensures way { result ≡ follow (map step_in steps.now) (parse image.now) from }
+    ensures inside { result.found ≤ length steps.now }
 {
-    let count = step_count(steps);
     let mut place = from;
-    let mut at = start;
-    while at < count {
-        let child = live_child(image, place, get_step(steps, at));
+    for (found, step) in steps.iter().enumerate() {
+        let child = live_child(image, place, *step);
         if child == 0 {
-            return Way {
-                found: at - start,
-                place,
-            };
+            return Way { found, place };
         }
         place = child;
-        at += 1;
     }
     Way {
-        found: at - start,
+        found: steps.len(),
         place,
     }
 }
 
-fn has_edge(image: &[u32], place: u32, t: StepRecord) -> bool
+fn has_edge(image: &[u32], place: u32, step: Step) -> bool
     requires { Formed image.now }
-    ensures { result ≡ is_edge (edge_for (parse image.now) place (step_in t)) }
+    ensures { result ≡ is_edge (edge_for (parse image.now) place (step_in step)) }
 {
-    match get(image, edge_of(place, t, 0)) {
+    match get(image, edge_of(place, step, 0)) {
         Transition::Live(_) => true,
         Transition::Dead => true,
         Transition::Absent => false,
@@ -61,30 +53,29 @@ fn has_edge(image: &[u32], place: u32, t: StepRecord) -> bool
 }
 
 // How many edges a new step's prunes give back.
-fn gives(image: &[u32], place: u32, t: StepRecord) -> u32
+fn gives(image: &[u32], place: u32, step: Step) -> u32
     requires formed { Formed image.now }
     requires place { Place (length (parse image.now).shapes) place }
-    ensures { result ≡ gives (parse image.now) place (step_in t) }
+    ensures { result ≡ gives (parse image.now) place (step_in step) }
 {
-    let wanted = edge_of(place, t, 0);
+    let wanted = edge_of(place, step, 0);
     let shape = get_shape(image, place);
     let counters = shape.counters;
     let wraps = counter(counters, wanted.kind) == 255;
-    if has_edge(image, place, t) | wraps {
+    if has_edge(image, place, step) | wraps {
         return dead_edges(image, place, wanted.kind);
     }
     0
 }
 
 // Every parent of a later step is new: it has nothing to prune.
-pub fn first_gives(image: &[u32], place: u32, steps: &[u32], start: usize) -> u32
+pub fn first_gives(image: &[u32], place: u32, steps: &[Step]) -> u32
     requires formed { Formed image.now }
     requires place { Place (length (parse image.now).shapes) place }
-    requires start_in_bounds { start ≤ length (records steps.now) }
-    ensures { result ≡ first_gives (parse image.now) place (drop start (steps_in steps.now)) }
+    ensures { result ≡ first_gives (parse image.now) place (map step_in steps.now) }
 {
-    if start == step_count(steps) {
-        return 0;
+    match steps {
+        [first, ..] => gives(image, place, *first),
+        [] => 0,
     }
-    gives(image, place, get_step(steps, start))
 }

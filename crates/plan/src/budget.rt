@@ -1,19 +1,16 @@
 // What there is room for, and what new steps take of it.
-ghost use Rattle.std.specs.Prelude.{◌≡◌, false, ◌&&◌, ◌≤◌, eqb, length, drop};
+ghost use Rattle.std.specs.Prelude.{◌≡◌, false, ◌&&◌, ◌≤◌, eqb, map};
 ghost use Rattle.store.specs.Layout.{parse};
 ghost use Rattle.store.specs.Image.{Formed};
 ghost use Rattle.rules.specs.Placing.{step_in};
 ghost use Rattle.rules.specs.Steps.{added};
 ghost use Rattle.theorems.specs.Facts.{Used, Sound};
-ghost use Rattle.steps.specs.Records.{records, steps_in};
 ghost use Rattle.plan.specs.Plan.{room_at, copies, whole_after, spent, spend, spend_all, converted};
 ghost use Rattle.plan.specs.Answers.{spending_of};
 ghost use Rattle.plan.specs.Budget.{Enough};
 
-use crate::{Room, Spending};
-use rules::{Refusal, StepRecord};
-use steps::{get_step, step_count};
-use store::StepKind;
+use crate::Room;
+use rules::{Refusal, Step};
 use store::image::{entry_count, free_edges, free_shapes, free_tables, get_shape, key_limit};
 
 // With so many edges given back by prunes.
@@ -35,107 +32,99 @@ pub fn room_at(image: &[u32], place: u32, back: u32) -> Room
     }
 }
 
-fn added(t: StepRecord) -> u32
-    ensures { result ≡ added (step_in t) }
+fn added(step: Step) -> u32
+    ensures { result ≡ added (step_in step) }
 {
-    if t.kind == StepKind::INSERT { 1 } else { 0 }
+    match step {
+        Step::Insert { .. } => 1,
+        Step::Configure { .. } | Step::Prototype(_) => 0,
+    }
 }
 
 // The new step needs a table of its own.
-fn copies(whole: bool, t: StepRecord) -> bool
-    ensures { result ≡ copies whole (step_in t) }
+fn copies(whole: bool, step: Step) -> bool
+    ensures { result ≡ copies whole (step_in step) }
 {
-    if t.kind == StepKind::INSERT {
-        return !whole;
-    }
-    t.kind == StepKind::CONFIGURE
-}
-
-fn whole_after(whole: bool, t: StepRecord) -> bool
-    ensures { result ≡ whole_after whole (step_in t) }
-{
-    if t.kind == StepKind::INSERT {
-        true
-    } else {
-        whole
+    match step {
+        Step::Insert { .. } => !whole,
+        Step::Configure { .. } => true,
+        Step::Prototype(_) => false,
     }
 }
 
-fn tables_left(t: StepRecord, room: Room) -> u32
-    requires { (copies room.whole (step_in t) && eqb room.tables 0) ≡ false }
-    ensures { result ≡ (spent (step_in t) room).tables }
+fn whole_after(whole: bool, step: Step) -> bool
+    ensures { result ≡ whole_after whole (step_in step) }
 {
-    if copies(room.whole, t) {
+    match step {
+        Step::Insert { .. } => true,
+        Step::Configure { .. } | Step::Prototype(_) => whole,
+    }
+}
+
+fn tables_left(step: Step, room: Room) -> u32
+    requires { (copies room.whole (step_in step) && eqb room.tables 0) ≡ false }
+    ensures { result ≡ (spent (step_in step) room).tables }
+{
+    if copies(room.whole, step) {
         return room.tables - 1;
     }
     room.tables
 }
 
-fn spent(t: StepRecord, room: Room) -> Room
-    requires { Enough (step_in t) room }
-    ensures { result ≡ spent (step_in t) room }
+fn spent(step: Step, room: Room) -> Room
+    requires { Enough (step_in step) room }
+    ensures { result ≡ spent (step_in step) room }
 {
     Room {
-        keys: room.keys - added(t),
+        keys: room.keys - added(step),
         shapes: room.shapes - 1,
-        tables: tables_left(t, room),
+        tables: tables_left(step, room),
         edges: room.edges - 1,
-        whole: whole_after(room.whole, t),
+        whole: whole_after(room.whole, step),
     }
 }
 
 // "the lowest that applies"
-fn spend(t: StepRecord, room: Room) -> Spending
-    ensures { result ≡ spending_of (spend (step_in t) room) }
+fn spend(step: Step, room: Room) -> Result<Room, Refusal>
+    ensures { result ≡ spending_of (spend (step_in step) room) }
 {
-    if (added(t) == 1) & (room.keys == 0) {
-        return Spending::Refused(Refusal::KeysFull);
+    if (added(step) == 1) & (room.keys == 0) {
+        return Err(Refusal::KeysFull);
     }
     if room.shapes == 0 {
-        return Spending::Refused(Refusal::ShapesFull);
+        return Err(Refusal::ShapesFull);
     }
-    if copies(room.whole, t) & (room.tables == 0) {
-        return Spending::Refused(Refusal::TablesFull);
+    if copies(room.whole, step) & (room.tables == 0) {
+        return Err(Refusal::TablesFull);
     }
     if room.edges == 0 {
-        return Spending::Refused(Refusal::EdgesFull);
+        return Err(Refusal::EdgesFull);
     }
-    Spending::Left(spent(t, room))
+    Ok(spent(step, room))
 }
 
 // "in the first step that meets one"
-pub fn spend_all(steps: &[u32], start: usize, room: Room) -> Spending
-    requires { start ≤ length (records steps.now) }
-    ensures { result ≡ spending_of (spend_all (drop start (steps_in steps.now)) room) }
+pub fn spend_all(steps: &[Step], room: Room) -> Result<Room, Refusal>
+    ensures { result ≡ spending_of (spend_all (map step_in steps.now) room) }
 {
-    let count = step_count(steps);
     let mut left = room;
-    let mut at = start;
-    while at < count {
-        match spend(get_step(steps, at), left) {
-            Spending::Refused(refusal) => {
-                return Spending::Refused(refusal);
-            }
-            Spending::Left(next) => {
-                left = next;
-            }
-        }
-        at += 1;
+    for step in steps {
+        left = spend(*step, left)?;
     }
-    Spending::Left(left)
+    Ok(left)
 }
 
 // Conversion to unique takes a shape and a table.
-pub fn converted(limit: bool, room: Room) -> Spending
+pub fn converted(limit: bool, room: Room) -> Result<Room, Refusal>
     ensures { result ≡ spending_of (converted limit room) }
 {
     if limit {
         if room.shapes == 0 {
-            return Spending::Refused(Refusal::ShapesFull);
+            return Err(Refusal::ShapesFull);
         }
         if room.tables == 0 {
-            return Spending::Refused(Refusal::TablesFull);
+            return Err(Refusal::TablesFull);
         }
     }
-    Spending::Left(room)
+    Ok(room)
 }

@@ -1,20 +1,19 @@
 // The plan of a list of steps, found before a word is written: which refusal they meet.
 #![tactic(auto)]
 
-ghost use Rattle.std.specs.Prelude.{◌≡◌, true, ◌+◌, ◌≤◌, eqb, length, drop};
+ghost use Rattle.std.specs.Prelude.{◌≡◌, true, ◌+◌, ◌≤◌, eqb, length, map, IfOk};
 ghost use Rattle.store.specs.Model.{shape_at};
 ghost use Rattle.store.specs.Layout.{parse};
 ghost use Rattle.store.specs.Image.{Formed};
 ghost use Rattle.rules.specs.Shapes.{shared};
 ghost use Rattle.theorems.specs.Facts.{Used, Sound};
-ghost use Rattle.steps.specs.Records.{records, steps_in};
+ghost use Rattle.rules.specs.Placing.{step_in};
 ghost use Rattle.plan.specs.Plan.{follow, plan_limited};
 ghost use Rattle.plan.specs.Answers.{new_steps, spending_of, planned_of};
 
 use crate::along::{first_gives, follow};
 use crate::budget::{converted, room_at, spend_all};
-use rules::Refusal;
-use steps::step_count;
+use rules::{Refusal, Step};
 use store::image::get_shape;
 
 mod along;
@@ -40,30 +39,16 @@ pub struct Room {
     pub whole: bool,
 }
 
-#[derive(Clone, Copy)]
-pub enum Spending {
-    Left(Room),
-    Refused(Refusal),
-}
-
-#[derive(Clone, Copy)]
-pub enum Planned {
-    // no refusal; along live edges the steps get as far as this
-    Passes(Way),
-    Refused(Refusal),
-}
-
-// None of the steps from `start` on has a child yet.
-fn plan_new(image: &[u32], place: u32, steps: &[u32], start: usize) -> Spending
+// None of the steps has a child yet.
+fn plan_new(image: &[u32], place: u32, steps: &[Step]) -> Result<Room, Refusal>
     requires formed { Formed image.now }
     requires sound { Sound (parse image.now) }
     requires used { Used (parse image.now) place }
-    requires start_in_bounds { start ≤ length (records steps.now) }
-    ensures { result ≡ spending_of (new_steps (parse image.now) place (drop start (steps_in steps.now))) }
+    ensures { result ≡ spending_of (new_steps (parse image.now) place (map step_in steps.now)) }
 {
-    let back = first_gives(image, place, steps, start);
+    let back = first_gives(image, place, steps);
     let room = room_at(image, place, back);
-    spend_all(steps, start, room)
+    spend_all(steps, room)
 }
 
 // "If the final result has 1,024 transitions"
@@ -77,27 +62,23 @@ fn at_limit(image: &[u32], from: u32, count: usize) -> bool
     count == 1024 - shape.transitions as usize
 }
 
-pub fn plan_limited(image: &[u32], from: u32, steps: &[u32], start: usize) -> Planned
+// Where there is no refusal: how far the steps get along live edges.
+pub fn plan_limited(image: &[u32], from: u32, steps: &[Step]) -> Result<Way, Refusal>
     requires formed { Formed image.now }
     requires sound { Sound (parse image.now) }
     requires from_value { shared (shape_at (parse image.now) from) ≡ true }
-    requires start_in_bounds { start ≤ length (records steps.now) }
-    ensures { result ≡ planned_of
-        (plan_limited (parse image.now) from (drop start (steps_in steps.now)))
-        (follow (drop start (steps_in steps.now)) (parse image.now) from) }
+    ensures planned { result ≡ planned_of
+        (plan_limited (parse image.now) from (map step_in steps.now))
+        (follow (map step_in steps.now) (parse image.now) from) }
+    ensures inside { IfOk result (λ way. way.found ≤ length steps.now) }
 {
-    let way = follow(image, from, steps, start);
-    let count = step_count(steps) - start;
-    let limit = at_limit(image, from, count);
+    let way = follow(image, from, steps);
+    let limit = at_limit(image, from, steps.len());
     // What is free is not counted where nothing is made.
-    if (way.found == count) & !limit {
-        return Planned::Passes(way);
+    if (way.found == steps.len()) & !limit {
+        return Ok(way);
     }
-    match plan_new(image, way.place, steps, start + way.found) {
-        Spending::Refused(refusal) => Planned::Refused(refusal),
-        Spending::Left(room) => match converted(limit, room) {
-            Spending::Refused(refusal) => Planned::Refused(refusal),
-            Spending::Left(_) => Planned::Passes(way),
-        },
-    }
+    let room = plan_new(image, way.place, &steps[way.found..])?;
+    converted(limit, room)?;
+    Ok(way)
 }

@@ -1,10 +1,9 @@
 -- Entries of one table appended to another, one after the other.
 -- Assumes nothing.
-use Rattle.std.specs.Prelude.{false, List, [], ◌∷◌, ◌++◌, ◌≢◌, ◌≡◌, refl, ℕ, ◌+◌, ◌-◌, ◌^◌, ◌≤◌, ◌<◌, length, get_or, take, drop}
+use Rattle.std.specs.Prelude.{false, List, [], ◌∷◌, ◌++◌, ◌≢◌, ◌≡◌, refl, ℕ, ◌+◌, ◌-◌, ◌^◌, ◌≤◌, ◌<◌, length, get_or, take, drop, Option}
 use Rattle.std.proofs.Common.{sym, ◌∙◌, ap, add-one, arith, drop_of_length-le, drop-cons, get_or-take, length-take-le}
 use Rattle.slot.specs.Slots.{slot_of, next_index}
 use Rattle.slot.specs.declared.Slot.{Slot}
-use Rattle.slot.specs.declared.OptionalSlot.{OptionalSlot}
 use Rattle.store.specs.Model.{used, Model, free_table, table_at, put_table, entries_of, no_entry}
 use Rattle.store.specs.Layout.{parse}
 use Rattle.store.specs.Image.{Formed, Place, Becomes, unchanged, and_then, put_table_sizes}
@@ -29,7 +28,7 @@ entries-few f t =
 
 -- ## One entry appended
 
-module _ {es : List Entry} {previous : OptionalSlot} (slotted : Slotted es)
+module _ {es : List Entry} {previous : Option Slot} (slotted : Slotted es)
     (last : previous ≡ slot_before (length es) es) where
   next_index_lem : next_index previous ≡ widths es
   next_index_lem = ap next_index last ∙ next_slot es slotted

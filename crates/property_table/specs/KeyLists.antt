@@ -1,5 +1,7 @@
 -- Keys of one kind, counted and written one after the other.
 -- Assumes nothing.
+use Rattle.std.specs.Int.{from_bool}
+use Rattle.std.specs.Prelude.{Bool, true, false, if◌then◌else◌}
 use Rattle.std.specs.Prelude.{List, [], ◌∷◌, ◌++◌, ◌≢◌, ◌≡◌, refl, ℕ, ◌+◌, ◌≤◌, ◌<◌, eqb, length, get_or, set, take, drop}
 use Rattle.std.proofs.lemmas.List.{map-append, length-map, set_split}
 use Rattle.std.proofs.Common.{append_assoc, sym, ◌∙◌, ap, ap₂, add-zero, zero-add, add-one, arith, eq-eqb, ne_eqb, length-append, length-drop, take-append-drop, take-suc, take_at, drop_at, drop-drop, length-take-le, take-take}
@@ -37,9 +39,6 @@ listed_fewer kind es i =
     let sum = length-append (listed kind (take i es)) (listed kind (drop i es)) in
     let same = ap length (sym both ∙ parts) in
     omega arith
-
-pub one_at_most : (kind key : ℕ) → length (one_listed kind key) ≤ 1
-one_at_most kind key = length-keep (λ (k : ℕ). eqb (kind_of k) kind) (key ∷ [])
 
 listed-few : (kind : ℕ) (es : List Entry) → length (listed kind es) ≤ length es
 listed-few kind es =
@@ -99,15 +98,21 @@ module _ (kind key : ℕ) (out : List ℕ) (at : ℕ) where
       → (at + 1 ≡ at + length (one_listed kind key)) × (set out at key ≡ written out at (one_listed kind key))
   key_written e h = rw (of_kind kind key e) (refl, written_one out at key h)
 
-  pub key_passed : kind_of key ≢ kind
-      → (at ≡ at + length (one_listed kind key)) × (out ≡ written out at (one_listed kind key))
-  key_passed e = rw (not_of_kind kind key e) (omega arith, sym (written_none out at))
+-- How many keys of the kind one key is.
+counted-one : (kind key : ℕ) → from_bool (eqb (kind_of key) kind) ≡ length (one_listed kind key)
+counted-one kind key = go (eqb (kind_of key) kind)
+  where
+    go : (b : Bool) → from_bool b ≡ length (if b then key ∷ [] else [])
+    go true = refl
+    go false = refl
 
 pub counted-more : (kind i : ℕ) (es : List Entry) {n : ℕ} {e : Entry} {one : ℕ} → i < length es
-    → n ≡ length (listed kind (take i es)) → e ≡ get_or es i no_entry → one ≡ length (one_listed kind e.key)
+    → n ≡ length (listed kind (take i es)) → e ≡ get_or es i no_entry → one ≡ from_bool (eqb (kind_of e.key) kind)
     → n + one ≡ length (listed kind (take (i + 1) es))
 counted-more kind i es h sum its one =
-    sym (ap length (listed_more kind es i h) ∙ length-append (listed kind (take i es)) _ ∙ rw (sum, one, its))
+    sym
+    (ap length (listed_more kind es i h) ∙ length-append (listed kind (take i es)) _
+    ∙ rw (sum, one, its, counted-one))
 
 pub record Listing (kind n : ℕ) (es : List Entry) (before : List ℕ) (at i end : ℕ) (out : List ℕ)
     : Type 0 where
@@ -116,10 +121,6 @@ pub record Listing (kind n : ℕ) (es : List Entry) (before : List ℕ) (at i en
   pub so_far : out ≡ written before at (listed kind (take i es))
 
 module _ {kind n : ℕ} {es : List Entry} {before : List ℕ} {at : ℕ} where
-  pub list_start : Listing kind n es before at 0 at before
-  list_start =
-      record { within = omega arith; ends = omega arith; so_far = sym (written_none before at) }
-
   module _ {i end : ℕ} {out : List ℕ} (l : Listing kind n es before at i end out) (inside : n ≤ length es)
       (room : at + length (listed kind (take n es)) ≤ length before) where
     listed-room : (j : ℕ) → j ≤ n → at + length (listed kind (take j es)) ≤ length before
@@ -157,25 +158,12 @@ module _ {kind n : ℕ} {es : List Entry} {before : List ℕ} {at : ℕ} where
             so_far = wrote ∙ rw (next-listed, l.so_far, ends) on;
           }
 
-    pub list_done : n ≤ i
-        → (end ≡ at + length (listed kind (take n es))) × (out ≡ written before at (listed kind (take n es)))
-    list_done h =
-        let w = l.within in
-        let same : n ≡ i = omega arith in
-        rw same (l.ends, l.so_far)
-
 -- ## Strings, then symbols
 
 module _ (out xs ys : List ℕ) {end : ℕ} {mid : List ℕ} (room : length (xs ++ ys) ≤ length out)
     (ends : end ≡ 0 + length xs) (wrote : mid ≡ written out 0 xs) where
   first_fits : 0 + length xs ≤ length out
   first_fits = let sum = length-append xs ys in omega arith
-
-  pub second_fits : end + length ys ≤ length mid
-  second_fits =
-      let sum = length-append xs ys in
-      let long = ap length wrote ∙ length-written out 0 xs first_fits in
-      omega arith
 
   pub both-written : {all : ℕ} {last : List ℕ} → all ≡ end + length ys → last ≡ written mid end ys
       → (all ≡ length (xs ++ ys)) × (last ≡ (xs ++ ys) ++ drop (length (xs ++ ys)) out)

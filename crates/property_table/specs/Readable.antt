@@ -1,23 +1,21 @@
 -- The table of a shape in use.
 -- Assumes nothing.
-use Rattle.std.specs.Prelude.{◌≡◌, ℕ, ◌≤◌, length}
+use Rattle.std.specs.Prelude.{◌≡◌, ℕ}
 use Rattle.store.specs.Model.{Model, used, shape_at, table_at}
-use Rattle.store.specs.Image.{Place}
 use Rattle.store.specs.declared.Shape.{Shape}
 use Rattle.rules.specs.Shapes.{table_of}
 use Rattle.theorems.specs.Facts.{Used, Sound, used_table, table-inside}
+use Rattle.key_position.specs.First.{own, AreThere}
 use Rattle.property_table.specs.Slotted.{Slotted, good_slotted}
 
 -- What a reader of its entries needs.
 pub record Readable (m : Model) (s : Shape) : Type 0 where
-  pub place : Place (length m.tables) s.table
-  pub count : s.properties ≤ length (table_of m s)
+  pub there : AreThere m (own s)
   pub slotted : Slotted (table_of m s)
 
 pub readable : {m : Model} {s : Shape} → Sound m → (n : ℕ) → Used m n → s ≡ shape_at m n → Readable m s
 readable {m} sound n u read = rw read record {
-  place = table-inside m sound n u;
-  count = (sound.shapes n u).count_fits;
+  there = record { place = table-inside m sound n u; enough = (sound.shapes n u).count_fits };
   slotted = good_slotted (table_of m there) (sound.tables there.table (table_of m there) in_use).good;
 }
   where

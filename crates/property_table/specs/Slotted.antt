@@ -1,14 +1,12 @@
 -- Entries whose slots are right: the slot index that comes next, and entries laid one after the other.
 -- Assumes nothing.
-use Rattle.std.specs.Prelude.{Bool, true, false, List, [], ◌∷◌, ◌++◌, ◌≢◌, ◌≡◌, refl, ℕ, zero, suc, ◌+◌, ◌-◌, ◌*◌, ◌≤◌, ◌<◌, length, get_or, take}
+use Rattle.std.specs.Prelude.{Bool, true, false, List, [], ◌∷◌, ◌++◌, ◌≢◌, ◌≡◌, refl, ℕ, zero, suc, ◌+◌, ◌-◌, ◌*◌, ◌≤◌, ◌<◌, length, get_or, take, None, Option, Some}
 use Rattle.std.proofs.Common.{append_assoc, append-nil, sym, ◌∙◌, ap, not-suc-le-zero, le_of_suc-le-suc, add_assoc, add-zero, zero-add, arith, leb-true, le-leb}
 use Rattle.std.proofs.Math.Seq.{take-length}
 use Rattle.std.specs.Prelude.{if◌then◌else◌}
 use Rattle.slot.specs.Attributes.{most_stored, good_attributes, accessor, width}
 use Rattle.slot.specs.Slots.{slot_of, next_index}
 use Rattle.slot.specs.declared.Slot.{Slot}
-use Rattle.slot.specs.declared.OptionalSlot.{OptionalSlot}
-use Rattle.slot.specs.declared.OptionalSlot.TheVariants.{At, Nothing}
 use Rattle.store.specs.Lists.{every}
 use Rattle.store.specs.Model.{no_entry}
 use Rattle.store.specs.ListLaws.{and_both, both-and, every_take, every_append, every-place, every_then}
@@ -77,16 +75,12 @@ abbrev pub slot_in : Entry → Slot
 slot_in e = slot_of e.slot.0 e.attributes
 
 -- The slot before position n; the first has none.
-abbrev pub slot_before : (n : ℕ) → List Entry → OptionalSlot
-slot_before zero es = Nothing
-slot_before (suc n) es = At (slot_in (get_or es n no_entry))
-
--- The slot of the last entry, by their number.
-pub no_slot : (es : List Entry) {n : ℕ} → n ≡ length es → n ≡ 0 → Nothing ≡ slot_before (length es) es
-no_slot es count none = rw (← count, none)
+abbrev pub slot_before : (n : ℕ) → List Entry → Option Slot
+slot_before zero es = None
+slot_before (suc n) es = Some (slot_in (get_or es n no_entry))
 
 pub last_slot : (es : List Entry) {n : ℕ} {e : Entry} {s : Slot} → n ≡ length es → n ≢ 0
-    → e ≡ get_or es (n - 1) no_entry → s ≡ slot_in e → At s ≡ slot_before (length es) es
+    → e ≡ get_or es (n - 1) no_entry → s ≡ slot_in e → Some s ≡ slot_before (length es) es
 last_slot es {n} count some its slot =
     let more : length es ≡ suc (n - 1) = omega arith in
     rw (more, slot, its)

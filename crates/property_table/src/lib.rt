@@ -1,7 +1,7 @@
 // A table of properties in the lent image: keys in order, each with its slot.
 #![tactic(auto)]
 
-ghost use Rattle.std.specs.Prelude.{◌≡◌, true, false, ◌++◌, ◌+◌, ◌-◌, ◌≤◌, ◌<◌, length, take, drop};
+ghost use Rattle.std.specs.Prelude.{◌≡◌, true, false, ◌++◌, ◌+◌, ◌-◌, ◌≤◌, ◌<◌, length, take, drop, Some};
 ghost use Rattle.slot.specs.Attributes.{most_stored};
 ghost use Rattle.store.specs.Model.{shape_at, table_at, put_table, free_table, free, used};
 ghost use Rattle.store.specs.Layout.{parse};
@@ -11,15 +11,15 @@ ghost use Rattle.rules.specs.Sound.{distinct};
 ghost use Rattle.rules.specs.Sweep.{key_list};
 ghost use Rattle.theorems.specs.Facts.{Used, Sound};
 ghost use Rattle.theorems.specs.Entries.{keys};
+ghost use Rattle.key_position.specs.First.{first_entries, AreThere};
 ghost use Rattle.property_table.specs.Slotted.{Slotted, slot_in, slot_before};
 ghost use Rattle.property_table.specs.Lookup.{property_at, looked_up};
-ghost use Rattle.property_table.specs.declared.OptionalProperty.TheVariants.{At};
 ghost use Rattle.property_table.specs.Copies.{entries_in, Apart, Copyable, copied};
 ghost use Rattle.property_table.specs.OneKey.{key_at};
 ghost use Rattle.property_table.specs.KeyLists.{listed, one_listed, written};
 
-use key_position::{OptionalPosition, position_of, position_of_held};
-use slot::{KeyPosition, OptionalSlot, Slot, SlotAttributes};
+use key_position::{FirstEntries, position_of, position_of_held};
+use slot::{KeyPosition, Slot, SlotAttributes};
 use store::Entry;
 use store::image::{append_entry, entry_count, get_entry, get_shape, set_entry, start_table};
 
@@ -30,20 +30,13 @@ pub struct Property {
     pub slot: Slot,
 }
 
-#[derive(Clone, Copy)]
-pub enum OptionalProperty {
-    At(Property),
-    Nothing,
-}
-
 // A stored value fits the attribute byte.
 fn slot_in(e: Entry) -> Slot
     requires { e.attributes ≤ most_stored }
     ensures { result ≡ slot_in e }
 {
-    let index = e.slot;
     Slot {
-        index,
+        index: e.slot,
         attributes: SlotAttributes(e.attributes as u8),
     }
 }
@@ -59,31 +52,25 @@ fn property_at(image: &[u32], table: u32, position: KeyPosition) -> Property
     Property { position, slot }
 }
 
-// Shapes share a table, and a shape's own keys are the first `count` of it.
-pub fn lookup(image: &[u32], table: u32, count: u32, key: u32) -> OptionalProperty
+pub fn lookup(image: &[u32], first: FirstEntries, key: u32) -> Option<Property>
     requires formed { Formed image.now }
-    requires place { Place (length (parse image.now).tables) table }
-    requires count_in_bounds { count ≤ length (entries_in image.now table) }
-    requires slotted { Slotted (entries_in image.now table) }
-    ensures { result ≡ looked_up key (take count (entries_in image.now table)) }
+    requires there { AreThere (parse image.now) first }
+    requires slotted { Slotted (entries_in image.now first.table) }
+    ensures { result ≡ looked_up key (first_entries (parse image.now) first) }
 {
-    match position_of(image, table, count, key) {
-        OptionalPosition::At(position) => {
-            OptionalProperty::At(property_at(image, table, position))
-        }
-        OptionalPosition::Nothing => OptionalProperty::Nothing,
-    }
+    let position = position_of(image, first, key)?;
+    Some(property_at(image, first.table, position))
 }
 
-// A shape's own keys are the first of its table.
-pub fn find(image: &[u32], n: u32, key: u32) -> OptionalProperty
+// The same among a shape's own entries.
+pub fn find(image: &[u32], n: u32, key: u32) -> Option<Property>
     requires formed { Formed image.now }
     requires sound { Sound (parse image.now) }
     requires used { Used (parse image.now) n }
     ensures { result ≡ looked_up key (entries (parse image.now) (shape_at (parse image.now) n)) }
 {
     let s = get_shape(image, n);
-    lookup(image, s.table, s.properties, key)
+    lookup(image, FirstEntries::of(s), key)
 }
 
 // For a key that the shape is known to hold.
@@ -92,14 +79,14 @@ pub fn find_held(image: &[u32], n: u32, key: u32) -> Property
     requires sound { Sound (parse image.now) }
     requires used { Used (parse image.now) n }
     requires n_value { has key (entries (parse image.now) (shape_at (parse image.now) n)) ≡ true }
-    ensures { At result ≡ looked_up key (entries (parse image.now) (shape_at (parse image.now) n)) }
+    ensures { Some result ≡ looked_up key (entries (parse image.now) (shape_at (parse image.now) n)) }
 {
     let s = get_shape(image, n);
-    let position = position_of_held(image, s.table, s.properties, key);
+    let position = position_of_held(image, FirstEntries::of(s), key);
     property_at(image, s.table, position)
 }
 
-fn last_slot(image: &[u32], table: u32) -> OptionalSlot
+fn last_slot(image: &[u32], table: u32) -> Option<Slot>
     requires formed { Formed image.now }
     requires place { Place (length (parse image.now).tables) table }
     requires slotted { Slotted (entries_in image.now table) }
@@ -107,10 +94,10 @@ fn last_slot(image: &[u32], table: u32) -> OptionalSlot
 {
     let count = entry_count(image, table);
     if count == 0 {
-        return OptionalSlot::Nothing;
+        return None;
     }
     let e = get_entry(image, table, KeyPosition(count - 1));
-    OptionalSlot::At(slot_in(e))
+    Some(slot_in(e))
 }
 
 // Slots differ in width: the new one begins where the last one ends, however many keys there are.
@@ -125,14 +112,13 @@ pub fn append(image: &mut [u32], table: u32, key: u32, attributes: SlotAttribute
         (used (appended (entries_in image.old table) key attributes.0))) }
 {
     let slot = Slot::from_previous(last_slot(image, table), attributes);
-    let index = slot.index;
     append_entry(
         image,
         table,
         Entry {
             key,
             attributes: attributes.0 as u32,
-            slot: index,
+            slot: slot.index,
         },
     );
 }
@@ -143,11 +129,9 @@ pub fn append_entries(image: &mut [u32], from: u32, to: u32, start: KeyPosition,
     ensures { Becomes image.old image.new
         (copied (parse image.old) from to start.0 end.0) }
 {
-    let mut position = start;
-    while position.0 < end.0 {
-        let e = get_entry(image, from, position);
+    for position in start.0..end.0 {
+        let e = get_entry(image, from, KeyPosition(position));
         append(image, to, e.key, SlotAttributes(e.attributes as u8));
-        position.0 += 1;
     }
 }
 
@@ -228,16 +212,14 @@ pub fn set_attributes_at_index(
         (key_at (entries_in image.old table) position.0) attributes.0))) }
 {
     let e = get_entry(image, table, position);
-    let slot = e.slot;
-    let attributes = attributes.0 as u32;
     set_entry(
         image,
         table,
         position,
         Entry {
             key: e.key,
-            attributes,
-            slot,
+            attributes: attributes.0 as u32,
+            slot: e.slot,
         },
     );
 }
@@ -248,36 +230,25 @@ const SYMBOLS: u32 = 1;
 
 const IDS: u32 = 1 << 30;
 
-// How many keys of that kind one key is.
-fn of_kind(key: u32, kind: u32) -> u32
-    ensures { result ≡ length (one_listed kind key) }
-{
-    if key / IDS == kind { 1 } else { 0 }
-}
-
-fn count_kind(image: &[u32], table: u32, count: u32, kind: u32) -> u32
+fn count_kind(image: &[u32], first: FirstEntries, kind: u32) -> u32
     requires formed { Formed image.now }
-    requires place { Place (length (parse image.now).tables) table }
-    requires count_in_bounds { count ≤ length (entries_in image.now table) }
-    ensures { result ≡ length (listed kind (take count (entries_in image.now table))) }
+    requires there { AreThere (parse image.now) first }
+    ensures { result ≡ length (listed kind (first_entries (parse image.now) first)) }
 {
     let mut n = 0;
-    let mut position = KeyPosition(0);
-    while position.0 < count {
-        let e = get_entry(image, table, position);
-        n += of_kind(e.key, kind);
-        position.0 += 1;
+    for position in 0..first.count {
+        let e = get_entry(image, first.table, KeyPosition(position));
+        n += u32::from(e.key / IDS == kind);
     }
     n
 }
 
-pub fn key_count(image: &[u32], table: u32, count: u32) -> u32
+pub fn key_count(image: &[u32], first: FirstEntries) -> u32
     requires formed { Formed image.now }
-    requires place { Place (length (parse image.now).tables) table }
-    requires count_in_bounds { count ≤ length (entries_in image.now table) }
-    ensures { result ≡ length (key_list (take count (entries_in image.now table))) }
+    requires there { AreThere (parse image.now) first }
+    ensures { result ≡ length (key_list (first_entries (parse image.now) first)) }
 {
-    count_kind(image, table, count, STRINGS) + count_kind(image, table, count, SYMBOLS)
+    count_kind(image, first, STRINGS) + count_kind(image, first, SYMBOLS)
 }
 
 // Writes the key if it is of that kind, and answers where the next one goes.
@@ -293,37 +264,33 @@ fn write_key(key: u32, kind: u32, out: &mut [u32], at: usize) -> usize
     at + 1
 }
 
-fn write_kind(image: &[u32], table: u32, count: u32, kind: u32, out: &mut [u32], at: usize) -> usize
+// Where the list ends is all that is passed on: a struct over a lent slice would serve these two functions alone.
+fn write_kind(image: &[u32], first: FirstEntries, kind: u32, out: &mut [u32], at: usize) -> usize
     requires formed { Formed image.now }
-    requires place { Place (length (parse image.now).tables) table }
-    requires count_in_bounds { count ≤ length (entries_in image.now table) }
-    requires table_in_bounds { at + length (listed kind (take count (entries_in image.now table))) ≤ length out.old }
-    ensures value { result ≡ at + length (listed kind (take count (entries_in image.now table))) }
+    requires there { AreThere (parse image.now) first }
+    requires room { at + length (listed kind (first_entries (parse image.now) first)) ≤ length out.old }
+    ensures value { result ≡ at + length (listed kind (first_entries (parse image.now) first)) }
     ensures out_after { out.new
-        ≡ written out.old at (listed kind (take count (entries_in image.now table))) }
+        ≡ written out.old at (listed kind (first_entries (parse image.now) first)) }
 {
     let mut end = at;
-    let mut position = KeyPosition(0);
-    while position.0 < count {
-        let e = get_entry(image, table, position);
+    for position in 0..first.count {
+        let e = get_entry(image, first.table, KeyPosition(position));
         end = write_key(e.key, kind, out, end);
-        position.0 += 1;
     }
     end
 }
 
 // Strings in order, then symbols in order, at the front of `out`.
-pub fn keys(image: &[u32], table: u32, count: u32, out: &mut [u32]) -> u32
+pub fn keys(image: &[u32], first: FirstEntries, out: &mut [u32]) -> u32
     requires formed { Formed image.now }
-    requires place { Place (length (parse image.now).tables) table }
-    requires count_in_bounds { count ≤ length (entries_in image.now table) }
-    requires table_in_bounds { length (key_list (take count (entries_in image.now table))) ≤ length out.old }
-    ensures value { result ≡ length (key_list (take count (entries_in image.now table))) }
+    requires there { AreThere (parse image.now) first }
+    requires room { length (key_list (first_entries (parse image.now) first)) ≤ length out.old }
+    ensures value { result ≡ length (key_list (first_entries (parse image.now) first)) }
     ensures out_after { out.new
-        ≡ key_list (take count (entries_in image.now table))
-        ++ drop (length (key_list (take count (entries_in image.now table)))) out.old }
+        ≡ key_list (first_entries (parse image.now) first)
+        ++ drop (length (key_list (first_entries (parse image.now) first))) out.old }
 {
-    let strings = write_kind(image, table, count, STRINGS, out, 0);
-    let all = write_kind(image, table, count, SYMBOLS, out, strings);
-    all as u32
+    let strings = write_kind(image, first, STRINGS, out, 0);
+    write_kind(image, first, SYMBOLS, out, strings) as u32
 }

@@ -1,12 +1,11 @@
 -- What a call from C promises: four numbers, and every lent word afterwards.
 -- Assumes nothing.
-use Rattle.std.specs.Prelude.{Bool, List, [], ◌≡◌, refl, ℕ}
+use Rattle.std.specs.Prelude.{Bool, List, [], ◌≡◌, refl, ℕ, Err, Ok, Result}
 use Rattle.std.proofs.Common.{◌∙◌, ap}
 use Rattle.std.specs.Prelude.{if◌then◌else◌}
 use Rattle.store.specs.declared.Limits.{Limits}
+use Rattle.rules.specs.declared.Refusal.{Refusal}
 use Rattle.rules.specs.declared.Refusal.TheVariants.{Damaged}
-use Rattle.rules.specs.declared.KeysReply.{KeysReply}
-use Rattle.rules.specs.declared.KeysReply.TheVariants.{Lists, Refused}
 use Rattle.rules.specs.Sound.{sound}
 use Rattle.rules.specs.Calls.{Given, Freed, Done, Found, NotFound, Listed, Number, Reply, No, Yes}
 use Rattle.rules.specs.Replies.{keys_reply, KeptIfRefused}
@@ -58,7 +57,7 @@ pub is_tested : (ws : List ℕ) (b : Bool) → b ≡ sound ws
 is_tested ws b is = ap (λ (x : Bool). answer ws (if x then Yes Done else No Damaged)) is
 
 -- The key list has a second lent slice. Its numbers are the count alone, whatever the list is.
-pub lists : (ws out after : List ℕ) (said : List ℕ × Reply) (n : ReplyNumbers) (r : KeysReply)
+pub lists : (ws out after : List ℕ) (said : List ℕ × Reply) (n : ReplyNumbers) (r : Result ℕ Refusal)
     → answer ws (keys_reply after r) ≡ said
     → KeptIfRefused r out after
     → numbers_of n ≡ four_numbers (keys_reply [] r)
@@ -66,10 +65,10 @@ pub lists : (ws out after : List ℕ) (said : List ℕ × Reply) (n : ReplyNumbe
 lists ws out after said n r did kept its =
     (tells ws n said (keys_reply after r) did (its ∙ count r), written r kept ∙ ap (listed_in out) did)
   where
-    count : (x : KeysReply) → four_numbers (keys_reply [] x) ≡ four_numbers (keys_reply after x)
-    count (Lists k) = refl
-    count (Refused x) = refl
+    count : (x : Result ℕ Refusal) → four_numbers (keys_reply [] x) ≡ four_numbers (keys_reply after x)
+    count (Ok k) = refl
+    count (Err x) = refl
 
-    written : (x : KeysReply) → KeptIfRefused x out after → after ≡ listed_in out (answer ws (keys_reply after x))
-    written (Lists k) e = refl
-    written (Refused x) e = e
+    written : (x : Result ℕ Refusal) → KeptIfRefused x out after → after ≡ listed_in out (answer ws (keys_reply after x))
+    written (Ok k) e = refl
+    written (Err x) e = e

@@ -7,14 +7,12 @@ ghost use Rattle.rules.specs.Runner.{action_number, four_numbers};
 ghost use Rattle.rules.specs.Replies.{shape_reply, done_reply, sweep_reply, lookup_reply, keys_reply, number_reply};
 ghost use Rattle.replies.specs.Numbers.{numbers_of};
 
-use rules::{
-    ChangeTransitionAction, DoneReply, KeysReply, LookupReply, NumberReply, Refusal, ShapeReply,
-    SweepReply,
-};
+use rules::{ChangeTransitionAction, FreedPlaces, GivenShape, Refusal};
+use slot::Slot;
 
 // "refusal or 0, shape, action .., transition count"; other calls have other numbers after the refusal.
 #[repr(C)]
-#[derive(Clone, Copy)]
+#[derive(Clone, Copy, Default)]
 pub struct ReplyNumbers {
     pub refusal: u32,
     pub first: u32,
@@ -22,6 +20,7 @@ pub struct ReplyNumbers {
     pub third: u32,
 }
 
+// No `From` for u32: it would have to stand in `rules`, which knows no numbers of a reply.
 fn refusal_number(r: Refusal) -> u32
     ensures { result ≡ refusal_number r }
 {
@@ -57,9 +56,7 @@ fn refused(r: Refusal) -> ReplyNumbers
 {
     ReplyNumbers {
         refusal: refusal_number(r),
-        first: 0,
-        second: 0,
-        third: 0,
+        ..ReplyNumbers::default()
     }
 }
 
@@ -67,87 +64,74 @@ fn one_number(n: u32) -> ReplyNumbers
     ensures { numbers_of result ≡ 0 ∷ n ∷ 0 ∷ 0 ∷ [] }
 {
     ReplyNumbers {
-        refusal: 0,
         first: n,
-        second: 0,
-        third: 0,
+        ..ReplyNumbers::default()
     }
 }
 
-pub fn shape_numbers(reply: ShapeReply) -> ReplyNumbers
+pub fn shape_numbers(reply: Result<GivenShape, Refusal>) -> ReplyNumbers
     ensures { numbers_of result ≡ four_numbers (shape_reply reply) }
 {
     match reply {
-        ShapeReply::Gives(g) => {
-            let action = g.action;
-            ReplyNumbers {
-                refusal: 0,
-                first: g.shape,
-                second: action_number(action),
-                third: g.transitions,
-            }
-        }
-        ShapeReply::Refused(r) => refused(r),
+        Ok(g) => ReplyNumbers {
+            refusal: 0,
+            first: g.shape,
+            second: action_number(g.action),
+            third: g.transitions,
+        },
+        Err(r) => refused(r),
     }
 }
 
-pub fn done_numbers(reply: DoneReply) -> ReplyNumbers
+pub fn done_numbers(reply: Result<(), Refusal>) -> ReplyNumbers
     ensures { numbers_of result ≡ four_numbers (done_reply reply) }
 {
     match reply {
-        DoneReply::Succeeds => one_number(0),
-        DoneReply::Refused(r) => refused(r),
+        Ok(()) => one_number(0),
+        Err(r) => refused(r),
     }
 }
 
-pub fn sweep_numbers(reply: SweepReply) -> ReplyNumbers
+pub fn sweep_numbers(reply: Result<FreedPlaces, Refusal>) -> ReplyNumbers
     ensures { numbers_of result ≡ four_numbers (sweep_reply reply) }
 {
     match reply {
-        SweepReply::Frees(f) => ReplyNumbers {
-            refusal: 0,
+        Ok(f) => ReplyNumbers {
             first: f.shapes,
             second: f.tables,
-            third: 0,
+            ..ReplyNumbers::default()
         },
-        SweepReply::Refused(r) => refused(r),
+        Err(r) => refused(r),
     }
 }
 
-pub fn lookup_numbers(reply: LookupReply) -> ReplyNumbers
+pub fn lookup_numbers(reply: Result<Option<Slot>, Refusal>) -> ReplyNumbers
     ensures { numbers_of result ≡ four_numbers (lookup_reply reply) }
 {
     match reply {
-        LookupReply::Finds(slot) => {
-            let index = slot.index;
-            let attributes = slot.attributes;
-            ReplyNumbers {
-                refusal: 0,
-                first: 1,
-                second: index.0,
-                third: attributes.0 as u32,
-            }
-        }
-        LookupReply::FindsNothing => one_number(0),
-        LookupReply::Refused(r) => refused(r),
+        Ok(Some(slot)) => ReplyNumbers {
+            refusal: 0,
+            first: 1,
+            second: slot.index.0,
+            third: slot.attributes.0 as u32,
+        },
+        Ok(None) => one_number(0),
+        Err(r) => refused(r),
     }
 }
 
-// The list itself stands in the lent slice.
-pub fn keys_numbers(reply: KeysReply) -> ReplyNumbers
+// The list itself stands in the lent slice: its count is told as the answer to a question is.
+pub fn keys_numbers(reply: Result<u32, Refusal>) -> ReplyNumbers
     ensures { numbers_of result ≡ four_numbers (keys_reply [] reply) }
 {
-    match reply {
-        KeysReply::Lists(count) => one_number(count),
-        KeysReply::Refused(r) => refused(r),
-    }
+    question_numbers(reply)
 }
 
-pub fn question_numbers(reply: NumberReply) -> ReplyNumbers
+pub fn question_numbers(reply: Result<u32, Refusal>) -> ReplyNumbers
     ensures { numbers_of result ≡ four_numbers (number_reply reply) }
 {
     match reply {
-        NumberReply::Is(n) => one_number(n),
-        NumberReply::Refused(r) => refused(r),
+        Ok(n) => one_number(n),
+        Err(r) => refused(r),
     }
 }

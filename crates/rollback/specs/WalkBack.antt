@@ -1,6 +1,6 @@
 -- The walk back from a shape that holds a key: what is known at each shape, how it goes on, and how it ends.
 -- Assumes nothing.
-use Rattle.std.specs.Prelude.{true, false, ◌||◌, ◌≢◌, ◌≡◌, refl, ℕ, zero, suc, ◌+◌, ◌-◌, ◌≤◌, ◌<◌, eqb, length, get_or, take, drop}
+use Rattle.std.specs.Prelude.{true, false, ◌||◌, ◌≢◌, ◌≡◌, refl, ℕ, zero, suc, ◌+◌, ◌-◌, ◌≤◌, ◌<◌, eqb, length, get_or, take, drop, None, Option, Some}
 use Rattle.std.proofs.lemmas.Bool.{false≢true}
 use Rattle.std.proofs.Math.Bool.{or-false}
 use mathlib.Core.List.{List, [], ◌∷◌, map}
@@ -17,15 +17,14 @@ use Rattle.rules.specs.Shapes.{entry, is_key, has, widths}
 use Rattle.rules.specs.Steps.{Step, insert, configure, prototype, backward, chain, prototype_step, last_of}
 use Rattle.rules.specs.Steps.{inserts, remember, same_key, yields, back, rollback}
 use Rattle.rules.specs.Trails.{made_by}
-use Rattle.steps.specs.Records.{records, steps_in}
+use Rattle.rules.specs.declared.Step.{Step as StepValue}
+use Rattle.rules.specs.Placing.{step_in}
 use Rattle.rules.specs.InUse.{Tabled, shared_used, used_table_inside}
 use Rattle.theorems.specs.Facts.{Sound, used_place_inside}
 use Rattle.theorems.specs.Entries.{has-configured}
 use Rattle.theorems.specs.Made.{SharedAt, entries_at, transitions_at, Made, made, at-root}
 use Rattle.theorems.specs.Rollback.{rolled_back}
-use Rattle.rollback.specs.StepsFrom.{StepsFrom, rows_left}
-use Rattle.rollback.specs.declared.OptionalPrototype.{OptionalPrototype}
-use Rattle.rollback.specs.declared.OptionalPrototype.TheVariants.{At, Nothing}
+use Rattle.rollback.specs.StepsFrom.{StepsFrom, places_left}
 
 -- ## One shape of the walk
 
@@ -50,9 +49,9 @@ last-read es {n} {e} inside some read =
     read ∙ sym (rw whole (last-append (take (n - 1) es) (get_or es (n - 1) no_entry) no_entry))
 
 -- The remembered prototype step, if there is one.
-abbrev pub newest_of : OptionalPrototype → List Step
-newest_of (At p) = prototype p ∷ []
-newest_of Nothing = []
+abbrev pub newest_of : Option ℕ → List Step
+newest_of (Some p) = prototype p ∷ []
+newest_of None = []
 
 -- A shape that is passed adds at most one step.
 one_more : (m : Model) (key : ℕ) (s : Shape) (ps ts : List Step)
@@ -140,21 +139,21 @@ module _ {m : Model} (sound : Sound m) {n key p : ℕ} {ps ts : List Step} (w : 
 
 -- ## The loop
 
--- The walk stands at the shape s; the yields stand in the words from row `start` on.
-pub record Walked (m : Model) (n key : ℕ) (from now : List ℕ) (s : Shape) (start : ℕ)
-    (newest : OptionalPrototype) : Type 0 where
+-- The walk stands at the shape s; the yields stand in the slice from `start` on.
+pub record Walked (m : Model) (n key : ℕ) (from now : List StepValue) (s : Shape) (start : ℕ)
+    (newest : Option ℕ) : Type 0 where
   pub place : ℕ
   pub here : s ≡ shape_at m place
-  pub walking : Walking m n key place (newest_of newest) (drop start (steps_in now))
+  pub walking : Walking m n key place (newest_of newest) (drop start (map step_in now))
   pub long : length now ≡ length from
-  pub inside : start ≤ length (records now)
+  pub inside : start ≤ length now
 
-pub walk_start : {m : Model} {n key : ℕ} {ws : List ℕ} {s : Shape} {start : ℕ} → SharedAt m n
-    → has key (entries_at m n) ≡ true → s ≡ shape_at m n → start ≡ length (records ws)
-    → Walked m n key ws ws s start Nothing
+pub walk_start : {m : Model} {n key : ℕ} {xs : List StepValue} {s : Shape} {start : ℕ} → SharedAt m n
+    → has key (entries_at m n) ≡ true → s ≡ shape_at m n → start ≡ length xs
+    → Walked m n key xs xs s start None
 unfolding rollback
-walk_start {n = n} {ws = ws} {start = start} h holds its end =
-    let none = drop_of_length-le (steps_in ws) {i = start} (rw (length-map, end) (omega arith)) in
+walk_start {n = n} {xs = xs} {start = start} h holds its end =
+    let none = drop_of_length-le (map step_in xs) {i = start} (rw (length-map, end) (omega arith)) in
     record {
       place = n;
       here = its;
@@ -164,8 +163,8 @@ walk_start {n = n} {ws = ws} {start = start} h holds its end =
       inside = omega arith;
     }
 
-module _ {m : Model} (sound : Sound m) {n key : ℕ} {from now : List ℕ} {s : Shape} {start : ℕ}
-    {newest : OptionalPrototype} (h : Walked m n key from now s start newest) where
+module _ {m : Model} (sound : Sound m) {n key : ℕ} {from now : List StepValue} {s : Shape} {start : ℕ}
+    {newest : Option ℕ} (h : Walked m n key from now s start newest) where
   pub walk_tabled : Tabled m s
   walk_tabled = rw h.here (shared_tabled m sound h.place h.walking.is_shared)
 
@@ -175,21 +174,21 @@ module _ {m : Model} (sound : Sound m) {n key : ℕ} {from now : List ℕ} {s : 
       rw h.here (shared-place m p (its sound h.walking).previous_shared)
 
   -- The shapes passed have added no more than a step each, and there is one before s.
-  pub walk-room : SharedAt m n → 1024 ≤ length (records from) → 1 ≤ start
+  pub walk-room : SharedAt m n → 1024 ≤ length from → 1 ≤ start
   walk-room g room =
       let few = (sound.shapes n (shared_used (shape_at m n) g)).words.transitions in
-      let here : StepsFrom now start (drop start (steps_in now))
+      let here : StepsFrom now start (drop start (map step_in now))
       = record { inside = h.inside; steps = refl } in
-      rows_left from here h.long room
+      places_left from here h.long room
       (omega (arith, h.walking.short, (before sound h.walking).more))
 
   pub walk-less : {after : Shape} → after ≡ shape_at m s.previous → after.transitions < s.transitions
   walk-less next =
       rw (next, h.here) (omega (arith, (before sound h.walking).more, (its sound h.walking).one_less))
 
-  pub walk-next : {later : List ℕ} {after : Shape} {start' : ℕ} {newest' : OptionalPrototype}
+  pub walk-next : {later : List StepValue} {after : Shape} {start' : ℕ} {newest' : Option ℕ}
       → inserts m key s ≡ false → newest_of newest' ≡ remember s (newest_of newest)
-      → StepsFrom later start' (yields m key s (drop start (steps_in now))) → length later ≡ length now
+      → StepsFrom later start' (yields m key s (drop start (map step_in now))) → length later ≡ length now
       → after ≡ shape_at m s.previous → Walked m n key from later after start' newest'
   walk-next other remembered yielded same next =
       let on = walk_on sound h.walking (rw h.here at other) in
@@ -203,7 +202,7 @@ module _ {m : Model} (sound : Sound m) {n key : ℕ} {from now : List ℕ} {s : 
 
   pub walk_done : inserts m key s ≡ true
       → rollback m n key
-      ≡ record { base = s.previous; newest = newest_of newest; yielded = drop start (steps_in now) }
+      ≡ record { base = s.previous; newest = newest_of newest; yielded = drop start (map step_in now) }
   walk_done is = rw (← h.here) at (walk_end sound h.walking (rw h.here at is))
 
 -- What the walk has remembered at its end: with the key's own step it is no longer than a trail.

@@ -1,11 +1,9 @@
-// The names that document 01 gives its refusals, and shape/mod.rs its actions; and what calls answer.
+// The names that document 01 gives its refusals, and shape/mod.rs its actions; steps; and what calls give.
 // Code and definitions share them.
 #![tactic(auto)]
 
 ghost use Rattle.std.specs.Prelude.{◌≡◌};
 ghost use Rattle.rules.specs.Numbers.{good_key};
-
-use slot::Slot;
 
 const ONE_KIND: u32 = 1 << 30;
 
@@ -41,21 +39,12 @@ pub enum ChangeTransitionAction {
     Insert,
 }
 
-// One step of a trail: document 01's step kind, the key or the prototype, and the attributes.
+// One step of a trail.
 #[derive(Clone, Copy)]
-pub struct StepRecord {
-    // a StepKind
-    pub kind: u32,
-    pub label: u32,
-    // not looked at for a prototype
-    pub attributes: u32,
-}
-
-// What a rule gives in the lent image: the place of a shape, or a refusal.
-#[derive(Clone, Copy)]
-pub enum Placement {
-    At(u32),
-    Refused(Refusal),
+pub enum Step {
+    Insert { key: u32, attributes: u32 },
+    Configure { key: u32, attributes: u32 },
+    Prototype(u32),
 }
 
 // A shape that a call gives, with one hold more.
@@ -71,41 +60,4 @@ pub struct GivenShape {
 pub struct FreedPlaces {
     pub shapes: u32,
     pub tables: u32,
-}
-
-#[derive(Clone, Copy)]
-pub enum ShapeReply {
-    Gives(GivenShape),
-    Refused(Refusal),
-}
-
-#[derive(Clone, Copy)]
-pub enum DoneReply {
-    Succeeds,
-    Refused(Refusal),
-}
-
-#[derive(Clone, Copy)]
-pub enum SweepReply {
-    Frees(FreedPlaces),
-    Refused(Refusal),
-}
-
-#[derive(Clone, Copy)]
-pub enum LookupReply {
-    Finds(Slot),
-    FindsNothing,
-    Refused(Refusal),
-}
-
-#[derive(Clone, Copy)]
-pub enum KeysReply {
-    Lists(u32),
-    Refused(Refusal),
-}
-
-#[derive(Clone, Copy)]
-pub enum NumberReply {
-    Is(u32),
-    Refused(Refusal),
 }

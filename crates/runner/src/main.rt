@@ -1,7 +1,7 @@
 // Document 01, "The step runner": answers the lines of standard input.
 #![tactic(auto)]
 
-ghost use Rattle.std.specs.Prelude.{◌≡◌, length, IfOk};
+ghost use Rattle.std.specs.Prelude.{IfOk};
 ghost use Rattle.runner.specs.Whole.{Whole, Left};
 
 use replaying::replay;
@@ -12,9 +12,11 @@ use stepping::format_image;
 
 // Answers all lines that are ended, and then how many bytes of `out` are still to be printed: an
 // unended last line's. Where a read or a write fails, its error ends it.
-fn answer_input(rt: &(impl Input + Print), image: &mut [u32], out: &mut [u8]) -> io::Result<usize>
-    requires image_len { length image.old ≡ 6952 }
-    requires out_len { length out.old ≡ 180224 }
+fn answer_input(
+    rt: &(impl Input + Print),
+    image: &mut [u32; 6952],
+    out: &mut [u8; 180224],
+) -> io::Result<usize>
     ensures ok { IfOk result (λ last. Whole image.new out.new last) }
     ensures left { Left image.new }
 {

@@ -8,7 +8,7 @@ use Rattle.store.specs.ListLaws.{both-and}
 use Rattle.rules.specs.Numbers.{good_key}
 use Rattle.rules.specs.Shapes.{has, unique}
 use Rattle.rules.specs.Steps.{Step, insert, prototype, may_step, step, then_limit, remove_shared, change_shared}
-use Rattle.rules.specs.Unique.{insert_unique, remove_unique, change_unique, prototype_unique, inserted, changed}
+use Rattle.rules.specs.Unique.{remove_unique, change_unique, prototype_unique, inserted, changed}
 use Rattle.rules.specs.Unique.{removed, rebased}
 use Rattle.rules.specs.Calls.{unheld}
 use Rattle.theorems.specs.Facts.{Sound, shared-or-unique}
@@ -19,10 +19,6 @@ use Rattle.theorems.specs.Changes.{may_act}
 
 module _ (m : Model) (n : ℕ) where
   module _ (is_unique : unique (shape_at m n) ≡ true) where
-    pub insert_of_unique : (k a : ℕ) → inserted m n k a ≡ insert_unique m n k a
-    unfolding inserted
-    insert_of_unique k a = rw is_unique
-
     pub change_of_unique : (k a : ℕ) → changed m n k a ≡ change_unique m n k a
     unfolding changed
     change_of_unique k a = rw is_unique

@@ -13,12 +13,13 @@ ghost use Rattle.rules.specs.Replies.{Answers, shape_reply};
 ghost use Rattle.theorems.specs.Facts.{Sound};
 
 use crate::is_unique;
-use holds::{grant_placed, is_full, is_held};
-use property_table::{OptionalProperty, find};
-use rules::{ChangeTransitionAction, Placement, Refusal, ShapeReply, good_key};
+use holds::{grant_placed, held, is_full};
+use property_table::find;
+use rules::{ChangeTransitionAction, GivenShape, Refusal, good_key};
 use slot::SlotAttributes;
 
-fn place(image: &mut [u32], n: u32, key: u32, attributes: SlotAttributes) -> Placement
+#[tactic(auto, unfolding(rules::specs::Unique::changed))]
+fn place(image: &mut [u32], n: u32, key: u32, attributes: SlotAttributes) -> Result<u32, Refusal>
     requires formed { Formed image.old }
     requires sound { Sound (parse image.old) }
     requires n_value { unheld (parse image.old) n ≡ false }
@@ -53,7 +54,7 @@ fn change(
     key: u32,
     old: SlotAttributes,
     attributes: SlotAttributes,
-) -> ShapeReply
+) -> Result<GivenShape, Refusal>
     requires formed { Formed image.old }
     requires sound { Sound (parse image.old) }
     requires n_value { unheld (parse image.old) n ≡ false }
@@ -65,38 +66,37 @@ fn change(
         (then_grant (action_for old.0 attributes.0) (changed (parse image.old) n key attributes.0)) (shape_reply result) }
 {
     if is_unique(image, n) & old.width_match(attributes) & is_full(image, n) {
-        return ShapeReply::Refused(Refusal::HoldsFull);
+        return Err(Refusal::HoldsFull);
     }
     let placed = place(image, n, key, attributes);
     grant_placed(image, placed, action_for(old, attributes))
 }
 
+#[tactic(auto, unfolding(rules::specs::Calls::perform))]
 pub fn change_attributes_transition(
     image: &mut [u32],
     n: u32,
     key: u32,
     attributes: u32,
-) -> ShapeReply
+) -> Result<GivenShape, Refusal>
     requires formed { Formed image.old }
     requires sound { Sound (parse image.old) }
     ensures { Answers image.old image.new
         (perform (parse image.old) (change_key n key attributes)) (shape_reply result) }
 {
     if !good_key(key) {
-        return ShapeReply::Refused(Refusal::BadKey);
+        return Err(Refusal::BadKey);
     }
     if attributes > SlotAttributes::MOST_STORED {
-        return ShapeReply::Refused(Refusal::BadAttributes);
+        return Err(Refusal::BadAttributes);
     }
-    if !is_held(image, n) {
-        return ShapeReply::Refused(Refusal::NoShape);
-    }
-    match find(image, n, key) {
-        OptionalProperty::Nothing => ShapeReply::Refused(Refusal::Absent),
-        OptionalProperty::At(p) => {
-            let slot = p.slot;
-            let old = slot.attributes;
-            change(image, n, key, old, SlotAttributes(attributes as u8))
-        }
-    }
+    held(image, n)?;
+    let property = find(image, n, key).ok_or(Refusal::Absent)?;
+    change(
+        image,
+        n,
+        key,
+        property.slot.attributes,
+        SlotAttributes(attributes as u8),
+    )
 }

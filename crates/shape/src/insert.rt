@@ -15,12 +15,13 @@ ghost use Rattle.theorems.specs.Facts.{Sound};
 ghost use Rattle.shape.specs.FullHolds.{full_refusal};
 
 use crate::{has_key, is_unique};
-use holds::{grant_placed, is_full, is_held};
-use rules::{ChangeTransitionAction, Placement, Refusal, ShapeReply, good_key};
+use holds::{grant_placed, held, is_full};
+use rules::{ChangeTransitionAction, GivenShape, Refusal, good_key};
 use slot::SlotAttributes;
 use store::image::{get_shape, key_limit};
 
-fn place(image: &mut [u32], n: u32, key: u32, attributes: SlotAttributes) -> Placement
+#[tactic(auto, unfolding(rules::specs::Unique::inserted))]
+fn place(image: &mut [u32], n: u32, key: u32, attributes: SlotAttributes) -> Result<u32, Refusal>
     requires formed { Formed image.old }
     requires sound { Sound (parse image.old) }
     requires n_value { unheld (parse image.old) n ≡ false }
@@ -49,7 +50,12 @@ fn refusal_of_full(image: &[u32], n: u32) -> Refusal
 }
 
 // An insert in a unique acts on the same number: its holds are looked at before it is written.
-fn insert(image: &mut [u32], n: u32, key: u32, attributes: SlotAttributes) -> ShapeReply
+fn insert(
+    image: &mut [u32],
+    n: u32,
+    key: u32,
+    attributes: SlotAttributes,
+) -> Result<GivenShape, Refusal>
     requires formed { Formed image.old }
     requires sound { Sound (parse image.old) }
     requires n_value { unheld (parse image.old) n ≡ false }
@@ -60,34 +66,33 @@ fn insert(image: &mut [u32], n: u32, key: u32, attributes: SlotAttributes) -> Sh
         (then_grant Nothing (inserted (parse image.old) n key attributes.0)) (shape_reply result) }
 {
     if is_unique(image, n) & is_full(image, n) {
-        return ShapeReply::Refused(refusal_of_full(image, n));
+        return Err(refusal_of_full(image, n));
     }
     let placed = place(image, n, key, attributes);
     grant_placed(image, placed, ChangeTransitionAction::Nothing)
 }
 
+#[tactic(auto, unfolding(rules::specs::Calls::perform))]
 pub fn insert_property_transition(
     image: &mut [u32],
     n: u32,
     key: u32,
     attributes: u32,
-) -> ShapeReply
+) -> Result<GivenShape, Refusal>
     requires formed { Formed image.old }
     requires sound { Sound (parse image.old) }
     ensures { Answers image.old image.new
         (perform (parse image.old) (insert_key n key attributes)) (shape_reply result) }
 {
     if !good_key(key) {
-        return ShapeReply::Refused(Refusal::BadKey);
+        return Err(Refusal::BadKey);
     }
     if attributes > SlotAttributes::MOST_STORED {
-        return ShapeReply::Refused(Refusal::BadAttributes);
+        return Err(Refusal::BadAttributes);
     }
-    if !is_held(image, n) {
-        return ShapeReply::Refused(Refusal::NoShape);
-    }
+    held(image, n)?;
     if has_key(image, n, key) {
-        return ShapeReply::Refused(Refusal::Present);
+        return Err(Refusal::Present);
     }
     insert(image, n, key, SlotAttributes(attributes as u8))
 }

@@ -1,6 +1,6 @@
 // The calls that change a shape, in either state, and new shapes. Each tests in document 01's order all that it
 // may refuse, before a word is written.
-#![tactic(auto)]
+#![tactic(auto, using(holds::specs::Granted::held_place))]
 
 ghost use Rattle.std.specs.Prelude.{◌≡◌, false};
 ghost use Rattle.store.specs.Model.{shape_at};
@@ -13,8 +13,8 @@ ghost use Rattle.theorems.specs.Facts.{Sound};
 
 use fresh::{new_root, new_unique};
 use holds::grant_placed;
-use property_table::{OptionalProperty, find};
-use rules::{ChangeTransitionAction, ShapeReply};
+use property_table::find;
+use rules::{ChangeTransitionAction, GivenShape, Refusal};
 use store::ShapeState;
 use store::image::get_shape;
 
@@ -23,6 +23,8 @@ pub mod insert;
 pub mod prototype;
 pub mod remove;
 
+// Each change asks it, and then makes the call of either state. The two calls of a change ask other facts of the image:
+// one function that took them as closures would have to state both.
 fn is_unique(image: &[u32], n: u32) -> bool
     requires formed { Formed image.now }
     requires n_value { unheld (parse image.now) n ≡ false }
@@ -38,13 +40,11 @@ fn has_key(image: &[u32], n: u32, key: u32) -> bool
     requires n_value { unheld (parse image.now) n ≡ false }
     ensures { result ≡ has key (entries (parse image.now) (shape_at (parse image.now) n)) }
 {
-    match find(image, n, key) {
-        OptionalProperty::At(_) => true,
-        OptionalProperty::Nothing => false,
-    }
+    find(image, n, key).is_some()
 }
 
-pub fn root(image: &mut [u32]) -> ShapeReply
+#[tactic(auto, unfolding(rules::specs::Calls::perform))]
+pub fn root(image: &mut [u32]) -> Result<GivenShape, Refusal>
     requires formed { Formed image.old }
     requires sound { Sound (parse image.old) }
     ensures { Answers image.old image.new
@@ -54,7 +54,8 @@ pub fn root(image: &mut [u32]) -> ShapeReply
     grant_placed(image, placed, ChangeTransitionAction::Nothing)
 }
 
-pub fn unique(image: &mut [u32]) -> ShapeReply
+#[tactic(auto, unfolding(rules::specs::Calls::perform))]
+pub fn unique(image: &mut [u32]) -> Result<GivenShape, Refusal>
     requires formed { Formed image.old }
     requires sound { Sound (parse image.old) }
     ensures { Answers image.old image.new

@@ -9,10 +9,11 @@ ghost use Rattle.rules.specs.Replies.{Answers, shape_reply};
 ghost use Rattle.theorems.specs.Facts.{Sound};
 
 use crate::is_unique;
-use holds::{grant_placed, is_held};
-use rules::{ChangeTransitionAction, Placement, Refusal, ShapeReply};
+use holds::{grant_placed, held};
+use rules::{ChangeTransitionAction, GivenShape, Refusal};
 
-fn place(image: &mut [u32], n: u32, to: u32) -> Placement
+#[tactic(auto, unfolding(rules::specs::Unique::rebased))]
+fn place(image: &mut [u32], n: u32, to: u32) -> Result<u32, Refusal>
     requires formed { Formed image.old }
     requires sound { Sound (parse image.old) }
     requires n_value { unheld (parse image.old) n ≡ false }
@@ -24,15 +25,18 @@ fn place(image: &mut [u32], n: u32, to: u32) -> Placement
     shared_shape::change_prototype_transition(image, n, to)
 }
 
-pub fn change_prototype_transition(image: &mut [u32], n: u32, to: u32) -> ShapeReply
+#[tactic(auto, unfolding(rules::specs::Calls::perform))]
+pub fn change_prototype_transition(
+    image: &mut [u32],
+    n: u32,
+    to: u32,
+) -> Result<GivenShape, Refusal>
     requires formed { Formed image.old }
     requires sound { Sound (parse image.old) }
     ensures { Answers image.old image.new
         (perform (parse image.old) (change_prototype n to)) (shape_reply result) }
 {
-    if !is_held(image, n) {
-        return ShapeReply::Refused(Refusal::NoShape);
-    }
+    held(image, n)?;
     let placed = place(image, n, to);
     grant_placed(image, placed, ChangeTransitionAction::Nothing)
 }

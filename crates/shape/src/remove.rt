@@ -11,10 +11,11 @@ ghost use Rattle.theorems.specs.Facts.{Sound};
 ghost use Rattle.theorems.specs.Made.{SharedAt, entries_at};
 
 use crate::{has_key, is_unique};
-use holds::{grant_placed, is_held};
-use rules::{ChangeTransitionAction, Placement, Refusal, ShapeReply, good_key};
+use holds::{grant_placed, held};
+use rules::{ChangeTransitionAction, GivenShape, Refusal, good_key};
 
-fn place(image: &mut [u32], n: u32, key: u32) -> Placement
+#[tactic(auto, unfolding(rules::specs::Unique::removed))]
+fn place(image: &mut [u32], n: u32, key: u32) -> Result<u32, Refusal>
     requires formed { Formed image.old }
     requires sound { Sound (parse image.old) }
     requires n_value { unheld (parse image.old) n ≡ false }
@@ -27,20 +28,23 @@ fn place(image: &mut [u32], n: u32, key: u32) -> Placement
     shared_shape::remove_property_transition(image, n, key)
 }
 
-pub fn remove_property_transition(image: &mut [u32], n: u32, key: u32) -> ShapeReply
+#[tactic(auto, unfolding(rules::specs::Calls::perform))]
+pub fn remove_property_transition(
+    image: &mut [u32],
+    n: u32,
+    key: u32,
+) -> Result<GivenShape, Refusal>
     requires formed { Formed image.old }
     requires sound { Sound (parse image.old) }
     ensures { Answers image.old image.new
         (perform (parse image.old) (remove_key n key)) (shape_reply result) }
 {
     if !good_key(key) {
-        return ShapeReply::Refused(Refusal::BadKey);
+        return Err(Refusal::BadKey);
     }
-    if !is_held(image, n) {
-        return ShapeReply::Refused(Refusal::NoShape);
-    }
+    held(image, n)?;
     if !is_unique(image, n) & !has_key(image, n, key) {
-        return ShapeReply::Refused(Refusal::Absent);
+        return Err(Refusal::Absent);
     }
     let placed = place(image, n, key);
     grant_placed(image, placed, ChangeTransitionAction::Nothing)

@@ -58,8 +58,11 @@ module _ (ws : List ℕ) (is_sound : sound ws ≡ true) where
   parts = and_both (sound_words ws) is_sound
 
   -- What the calls below ask for.
-  pub ready : Formed ws × Sound (parse ws)
-  ready = (words-formed ws parts.0, (sound-read ws is_sound).is_sound)
+  pub ready_formed : Formed ws
+  ready_formed = words-formed ws parts.0
+
+  pub ready_sound : Sound (parse ws)
+  ready_sound = (sound-read ws is_sound).is_sound
 
   pub answered : (after : List ℕ) (c : Call) (r : Reply) → Answers ws after (perform (parse ws) c) r
       → Calls ws after c r
@@ -69,7 +72,7 @@ module _ (ws : List ℕ) (is_sound : sound ws ≡ true) where
       go : (g : Got (Model × Answer)) → Answers ws after g r
           → pair after r ≡ pair (words (settle (parse ws) g).0) (settle (parse ws) g).1
       go (ok (m, a)) (became, its) = ap₂ pair became.laid its
-      go (refused x) (same, its) = ap₂ pair (same ∙ ready.0.laid) its
+      go (refused x) (same, its) = ap₂ pair (same ∙ ready_formed.laid) its
 
 -- Damaged: "image not sound".
 pub damaged : (ws : List ℕ) (c : Call) → sound ws ≡ false → Calls ws ws c (No Damaged)
@@ -88,3 +91,6 @@ damaged ws c bad = go (sound_words ws) (sound_model (parse ws)) (λ e. (words-fo
     go true true laid e = absurd (true≢false e)
     go true false laid e = ap (λ (vs : List ℕ). pair vs (No Damaged)) (laid refl)
     go false b laid e = refl
+
+-- What each public call is proved by.
+pub ruleset call_lemmas = (ready_formed, ready_sound, answered, damaged)

@@ -1,5 +1,5 @@
 // The public calls for C: a lent slice is a pointer and a count of words, and each answer four numbers.
-#![tactic(auto)]
+#![tactic(auto, using(replies::specs::Told::tells))]
 
 ghost use Rattle.std.specs.Prelude.{◌≡◌};
 ghost use Rattle.rules.specs.Calls.{new_root, new_unique, insert_key, change_key, remove_key, change_prototype};
@@ -11,7 +11,7 @@ use replies::{
     ReplyNumbers, done_numbers, keys_numbers, lookup_numbers, question_numbers, shape_numbers,
     sweep_numbers,
 };
-use rules::{DoneReply, Refusal};
+use rules::Refusal;
 use store::Limits;
 
 // The four limits in the header's order. It alone takes an image that is not sound.
@@ -159,7 +159,7 @@ pub extern "C" fn shapes_is_sound(image: &[u32]) -> ReplyNumbers
     ensures { Tells image.now result (tested image.now) }
 {
     if shapes::is_sound(image) {
-        return done_numbers(DoneReply::Succeeds);
+        return done_numbers(Ok(()));
     }
-    done_numbers(DoneReply::Refused(Refusal::Damaged))
+    done_numbers(Err(Refusal::Damaged))
 }

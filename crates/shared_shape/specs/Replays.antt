@@ -1,6 +1,6 @@
 -- The steps of a removal and of a change: they may be taken, and they are the rule's.
 -- Assumes nothing.
-use Rattle.std.specs.Prelude.{Bool, true, false, List, ◌∷◌, ◌++◌, ◌≡◌, ℕ, ◌≤◌, ◌<◌}
+use Rattle.std.specs.Prelude.{Bool, true, false, List, ◌∷◌, ◌++◌, ◌≡◌, ℕ, ◌≤◌, ◌<◌, Some}
 use Rattle.std.proofs.Common.{sym, ◌∙◌, arith, le-leb}
 use Rattle.slot.specs.Attributes.{most_stored, same_width}
 use Rattle.store.specs.Model.{Model, shape_at}
@@ -17,7 +17,6 @@ use Rattle.theorems.specs.Made.{SharedAt, entries_at, transitions_at}
 use Rattle.theorems.specs.Rollback.{RolledBack, rolled_back}
 use Rattle.theorems.specs.Sequence.{good_label_lem}
 use Rattle.property_table.specs.declared.Property.{Property}
-use Rattle.property_table.specs.declared.OptionalProperty.TheVariants.{At}
 use Rattle.property_table.specs.Lookup.{looked_up, looked_attributes}
 use Rattle.plan.specs.PlanRight.{LegalSteps}
 use Rattle.plan.specs.PlanLegal.{legal_steps}
@@ -77,6 +76,6 @@ module _ (m : Model) (sound : Sound m) (n k : ℕ) (is_shared : SharedAt m n)
 
 -- ## The key's width
 
-pub width-told : (k a : ℕ) (es : List Entry) {p : Property} {r : Bool} → At p ≡ looked_up k es
+pub width-told : (k a : ℕ) (es : List Entry) {p : Property} {r : Bool} → Some p ≡ looked_up k es
     → r ≡ same_width p.slot.attributes.0 a → r ≡ same_width (attributes_in k es) a
 width-told k a es found told = told ∙ rw (looked_attributes k es (sym found))

@@ -1,7 +1,7 @@
 // Shared shapes: each change is a list of steps, planned before a word is written; and the limit.
 #![tactic(auto)]
 
-ghost use Rattle.std.specs.Prelude.{◌≡◌, true, false, ◌≤◌, ◌<◌, length, drop};
+ghost use Rattle.std.specs.Prelude.{◌≡◌, true, false, ◌≤◌, ◌<◌, map};
 ghost use Rattle.slot.specs.Attributes.{most_stored, same_width};
 ghost use Rattle.store.specs.Layout.{parse};
 ghost use Rattle.store.specs.Image.{Formed};
@@ -10,27 +10,24 @@ ghost use Rattle.rules.specs.Shapes.{has, attributes_in};
 ghost use Rattle.rules.specs.Steps.{insert, prototype, step, steps, limited, then_limit, remove_shared};
 ghost use Rattle.rules.specs.Steps.{change_shared};
 ghost use Rattle.rules.specs.Placing.{step_in, Places};
-ghost use Rattle.steps.specs.Records.{records, steps_in};
 ghost use Rattle.theorems.specs.Facts.{Sound};
 ghost use Rattle.theorems.specs.Child.{Legal};
 ghost use Rattle.theorems.specs.Made.{SharedAt, entries_at, transitions_at};
 ghost use Rattle.plan.specs.PlanRight.{LegalSteps};
 
 use fresh::to_unique;
-use plan::{Planned, plan_limited};
+use plan::plan_limited;
 use property_table::find_held;
 use rollback::{change_steps, removal_steps};
-use rules::{Placement, StepRecord};
+use rules::{Refusal, Step};
 use shared_step::take_steps;
 use slot::SlotAttributes;
-use steps::put_step;
-use store::StepKind;
 use store::image::get_shape;
 
 const MOST_TRANSITIONS: u32 = 1024;
 
 // "If the final result has 1,024 transitions, a new unique shape copies its keys and prototype".
-fn limited(image: &mut [u32], n: u32) -> Placement
+fn limited(image: &mut [u32], n: u32) -> Result<u32, Refusal>
     requires formed { Formed image.old }
     requires sound { Sound (parse image.old) }
     requires shared_at { SharedAt (parse image.old) n }
@@ -41,38 +38,31 @@ fn limited(image: &mut [u32], n: u32) -> Placement
     if s.transitions == MOST_TRANSITIONS {
         return to_unique(image, n);
     }
-    Placement::At(n)
+    Ok(n)
 }
 
-// The steps from row `start` on: a refusal is found before anything is written.
-fn transition(image: &mut [u32], from: u32, list: &[u32], start: usize) -> Placement
+// A refusal is found before anything is written.
+fn transition(image: &mut [u32], from: u32, list: &[Step]) -> Result<u32, Refusal>
     requires formed { Formed image.old }
     requires sound { Sound (parse image.old) }
     requires shared_at { SharedAt (parse image.old) from }
-    requires start_in_bounds { start ≤ length (records list.now) }
-    requires legal_steps { LegalSteps (drop start (steps_in list.now)) (parse image.old) from }
+    requires legal_steps { LegalSteps (map step_in list.now) (parse image.old) from }
     ensures { Places image.old image.new
-        (then_limit (steps (drop start (steps_in list.now)) (parse image.old) from)) result }
+        (then_limit (steps (map step_in list.now) (parse image.old) from)) result }
 {
-    match plan_limited(image, from, list, start) {
-        Planned::Refused(r) => Placement::Refused(r),
-        Planned::Passes(way) => {
-            let n = take_steps(image, way.place, list, start + way.found);
-            limited(image, n)
-        }
-    }
+    let way = plan_limited(image, from, list)?;
+    let n = take_steps(image, way.place, &list[way.found..]);
+    limited(image, n)
 }
 
-fn one_step(image: &mut [u32], n: u32, t: StepRecord) -> Placement
+fn one_step(image: &mut [u32], n: u32, t: Step) -> Result<u32, Refusal>
     requires formed { Formed image.old }
     requires sound { Sound (parse image.old) }
     requires legal { Legal (parse image.old) n (step_in t) }
     ensures { Places image.old image.new
         (then_limit (step (parse image.old) n (step_in t))) result }
 {
-    let mut steps = [0u32; 3];
-    put_step(&mut steps, 0, t);
-    transition(image, n, &steps, 0)
+    transition(image, n, &[t])
 }
 
 pub fn insert_property_transition(
@@ -80,45 +70,30 @@ pub fn insert_property_transition(
     n: u32,
     key: u32,
     attributes: SlotAttributes,
-) -> Placement
+) -> Result<u32, Refusal>
     requires formed { Formed image.old }
     requires sound { Sound (parse image.old) }
     requires legal { Legal (parse image.old) n (insert key attributes.0) }
     ensures { Places image.old image.new
         (then_limit (step (parse image.old) n (insert key attributes.0))) result }
 {
-    one_step(
-        image,
-        n,
-        StepRecord {
-            kind: StepKind::INSERT,
-            label: key,
-            attributes: attributes.0 as u32,
-        },
-    )
+    let attributes = attributes.0 as u32;
+    one_step(image, n, Step::Insert { key, attributes })
 }
 
 // A step is made though the prototype is unchanged.
-pub fn change_prototype_transition(image: &mut [u32], n: u32, to: u32) -> Placement
+pub fn change_prototype_transition(image: &mut [u32], n: u32, to: u32) -> Result<u32, Refusal>
     requires formed { Formed image.old }
     requires sound { Sound (parse image.old) }
     requires legal { Legal (parse image.old) n (prototype to) }
     ensures { Places image.old image.new
         (then_limit (step (parse image.old) n (prototype to))) result }
 {
-    one_step(
-        image,
-        n,
-        StepRecord {
-            kind: StepKind::PROTOTYPE,
-            label: to,
-            attributes: 0,
-        },
-    )
+    one_step(image, n, Step::Prototype(to))
 }
 
-// The rows take as many steps as a shared shape can have transitions.
-pub fn remove_property_transition(image: &mut [u32], n: u32, key: u32) -> Placement
+// There is room for as many steps as a shared shape can have transitions.
+pub fn remove_property_transition(image: &mut [u32], n: u32, key: u32) -> Result<u32, Refusal>
     requires formed { Formed image.old }
     requires sound { Sound (parse image.old) }
     requires shared_at { SharedAt (parse image.old) n }
@@ -126,12 +101,17 @@ pub fn remove_property_transition(image: &mut [u32], n: u32, key: u32) -> Placem
     ensures { Places image.old image.new
         (then_limit (remove_shared (parse image.old) n key)) result }
 {
-    let mut steps = [0u32; 3072];
-    let replay = removal_steps(image, n, key, &mut steps);
-    transition(image, replay.base, &steps, replay.start)
+    let mut room = [Step::Prototype(0); 1024];
+    let replay = removal_steps(image, n, key, &mut room);
+    transition(image, replay.base, replay.steps)
 }
 
-fn change_width(image: &mut [u32], n: u32, key: u32, attributes: SlotAttributes) -> Placement
+fn change_width(
+    image: &mut [u32],
+    n: u32,
+    key: u32,
+    attributes: SlotAttributes,
+) -> Result<u32, Refusal>
     requires formed { Formed image.old }
     requires sound { Sound (parse image.old) }
     requires shared_at { SharedAt (parse image.old) n }
@@ -141,9 +121,9 @@ fn change_width(image: &mut [u32], n: u32, key: u32, attributes: SlotAttributes)
     ensures { Places image.old image.new
         (then_limit (change_shared (parse image.old) n key attributes.0)) result }
 {
-    let mut steps = [0u32; 3072];
-    let replay = change_steps(image, n, key, attributes, &mut steps);
-    transition(image, replay.base, &steps, replay.start)
+    let mut room = [Step::Prototype(0); 1024];
+    let replay = change_steps(image, n, key, attributes, &mut room);
+    transition(image, replay.base, replay.steps)
 }
 
 fn width_stays(image: &[u32], n: u32, key: u32, attributes: SlotAttributes) -> bool
@@ -163,7 +143,7 @@ pub fn change_attributes_transition(
     n: u32,
     key: u32,
     attributes: SlotAttributes,
-) -> Placement
+) -> Result<u32, Refusal>
     requires formed { Formed image.old }
     requires sound { Sound (parse image.old) }
     requires shared_at { SharedAt (parse image.old) n }
@@ -177,13 +157,6 @@ pub fn change_attributes_transition(
     if !width_stays(image, n, key, attributes) {
         return change_width(image, n, key, attributes);
     }
-    one_step(
-        image,
-        n,
-        StepRecord {
-            kind: StepKind::CONFIGURE,
-            label: key,
-            attributes: attributes.0 as u32,
-        },
-    )
+    let attributes = attributes.0 as u32;
+    one_step(image, n, Step::Configure { key, attributes })
 }

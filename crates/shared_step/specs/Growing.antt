@@ -1,6 +1,6 @@
 -- A child that is made: the places it takes, and the words that code writes for it.
 -- Assumes nothing.
-use Rattle.std.specs.Prelude.{Bool, true, ◌&&◌, List, ◌≢◌, ◌≡◌, refl, ℕ, ◌≤◌, eqb, length}
+use Rattle.std.specs.Prelude.{Bool, true, ◌&&◌, List, ◌≢◌, ◌≡◌, refl, ℕ, ◌≤◌, eqb, length, Ok}
 use Rattle.std.proofs.Common.{sym, ◌∙◌, ap₂, arith, eq-eqb, leb-true}
 use Rattle.std.proofs.Math.Path.{ap}
 use Rattle.slot.specs.Attributes.{most_stored, good_attributes}
@@ -12,7 +12,6 @@ use Rattle.store.specs.Image.{Formed, Place, Becomes, and_then}
 use Rattle.store.specs.ListLaws.{and_both, both-and, not-both}
 use Rattle.store.specs.declared.Shape.{Shape}
 use Rattle.store.specs.declared.Edge.{Edge}
-use Rattle.rules.specs.declared.Placement.TheVariants.{At}
 use Rattle.rules.specs.declared.Refusal.TheVariants.{KeysFull, ShapesFull, EdgesFull}
 use Rattle.rules.specs.Numbers.{good_key}
 use Rattle.rules.specs.Shapes.{table_of}
@@ -138,7 +137,7 @@ module _ {a : List ℕ} {n : ℕ} {t : Step} (ready : Ready a n t (grow (parse a
       (omega arith, omega arith)
 
   -- Its table was seen to,
-  module _ (b : List ℕ) (table : ℕ) (first : Places a b (child_table m s t) (At table)) where
+  module _ (b : List ℕ) (table : ℕ) (first : Places a b (child_table m s t) (Ok table)) where
     tabled : Becomes a b g.tabled.0 × (table ≡ g.tabled.1)
     tabled = placed table_given first
 
@@ -163,7 +162,7 @@ module _ {a : List ℕ} {n : ℕ} {t : Step} (ready : Ready a n t (grow (parse a
       -- and then the edge.
       pub grown : {w : List ℕ} {e : Edge} → e ≡ edge_of n t c
           → Becomes d w (put_edge (parse d) (lowest free_edge 1 (parse d).edges) e)
-          → Places a w (grow m n t) (At c)
+          → Places a w (grow m n t) (Ok c)
       grown same third =
           let last = and_then second (rw (same_place, whole, same) at third) in
           places g.gave (and_then tabled.0 last) refl

@@ -24,10 +24,10 @@ mask_power : (k byte : ℕ) → bit_and byte (2 ^ k) ≡ (byte / 2 ^ k % 2) * 2 
 mask_power k byte =
     let e : 2 ^ (1 + k) - 2 ^ k ≡ 2 ^ k = omega (arith, pow-add 2 1 k) in rw e at (and_high byte 1 k)
 
-pub mask-present : (n bit byte : ℕ) → T (one_bit n bit) → not (eqb (bit_and byte bit) 0) ≡ present bit byte
+pub mask_present : (n bit byte : ℕ) → T (one_bit n bit) → not (eqb (bit_and byte bit) 0) ≡ present bit byte
 unfolding present
-mask-present zero bit byte t = absurd t
-mask-present (suc n) bit byte t =
+mask_present zero bit byte t = absurd t
+mask_present (suc n) bit byte t =
     dite (ℕ_discrete bit (2 ^ n))
     (λ e. rw (e, mask_power) (digit (byte / 2 ^ n % 2) (2 ^ n) (mod-lt _ (lit< tt)) (pow_pos n)))
-    (λ ne. mask-present n bit byte (rw (ne_eqb bit (2 ^ n) ne) at t))
+    (λ ne. mask_present n bit byte (rw (ne_eqb bit (2 ^ n) ne) at t))

@@ -14,7 +14,7 @@ ghost use Rattle.slot.specs.Attributes.{
 ghost use Rattle.slot.specs.Slots.{one_bit, slot_of, next_index};
 
 // Counts storage places. It and a position are two types, so that no sum and no test takes one for the other.
-#[derive(Clone, Copy)]
+#[derive(Clone, Copy, Default)]
 pub struct SlotIndex(pub u32);
 
 impl SlotIndex {
@@ -31,7 +31,7 @@ impl SlotIndex {
 #[derive(Clone, Copy)]
 pub struct KeyPosition(pub u32);
 
-#[derive(Clone, Copy)]
+#[derive(Clone, Copy, Default)]
 pub struct SlotAttributes(pub u8);
 
 impl SlotAttributes {
@@ -97,6 +97,7 @@ impl SlotAttributes {
         self.contains(SlotAttributes::SET)
     }
 
+    #[tactic(auto, unfolding(crate::specs::Attributes::accessor))]
     pub fn is_accessor_descriptor(self) -> bool
         ensures { result ≡ accessor self.0 }
     {
@@ -104,6 +105,7 @@ impl SlotAttributes {
     }
 
     // An accessor has two functions to store, where a data property has one value.
+    #[tactic(auto, unfolding(crate::specs::Attributes::width))]
     pub fn width(self) -> u32
         ensures { result ≡ width self.0 }
     {
@@ -133,6 +135,7 @@ impl SlotAttributes {
     }
 
     // A cache reaches from an object to its prototype, and no further up the chain.
+    #[tactic(auto, unfolding(crate::specs::Attributes::not_cacheable_if_prototype))]
     pub fn set_not_cacheable_if_already_prototype(self) -> SlotAttributes
         ensures { result.0 ≡ not_cacheable_if_prototype self.0 }
     {
@@ -145,27 +148,17 @@ impl SlotAttributes {
 }
 
 // Where a property's value is stored, and its attributes.
-#[derive(Clone, Copy)]
+#[derive(Clone, Copy, Default)]
 pub struct Slot {
     pub index: SlotIndex,
     pub attributes: SlotAttributes,
-}
-
-// A key may have no slot, and the first key has none before it.
-#[derive(Clone, Copy)]
-pub enum OptionalSlot {
-    At(Slot),
-    Nothing,
 }
 
 impl Slot {
     pub fn new() -> Slot
         ensures { result ≡ slot_of 0 0 }
     {
-        Slot {
-            index: SlotIndex(0),
-            attributes: SlotAttributes(0),
-        }
+        Slot::default()
     }
 
     pub fn width(self) -> u32
@@ -181,20 +174,18 @@ impl Slot {
     }
 
     // Slots differ in width, so that the next index depends on the slot before it. It has to fit, and no more is asked.
-    pub fn from_previous(previous: OptionalSlot, attributes: SlotAttributes) -> Slot
+    pub fn from_previous(previous: Option<Slot>, attributes: SlotAttributes) -> Slot
         requires { next_index previous < 2 ^ 32 }
         ensures { result ≡ slot_of (next_index previous) attributes.0 }
     {
-        let OptionalSlot::At(before) = previous else {
+        let Some(before) = previous else {
             return Slot {
                 index: SlotIndex(0),
                 attributes,
             };
         };
-        let index = before.index;
-        let width = before.width();
         Slot {
-            index: index.after(width),
+            index: before.index.after(before.width()),
             attributes,
         }
     }
@@ -202,9 +193,8 @@ impl Slot {
     pub fn set_not_cacheable_if_already_prototype(self) -> Slot
         ensures { result ≡ slot_of self.index.0 (not_cacheable_if_prototype self.attributes.0) }
     {
-        let index = self.index;
         Slot {
-            index,
+            index: self.index,
             attributes: self.attributes.set_not_cacheable_if_already_prototype(),
         }
     }

@@ -1,12 +1,12 @@
 -- What a key that is held decides, and what the ways out of an edge's test answer.
 -- Assumes nothing.
-use Rattle.std.specs.Prelude.{◌≡◌, refl, Bool, false, ◌&&◌, ◌||◌, List, [], ◌∷◌, ◌≢◌, ℕ, suc, ◌≤◌, ◌<◌, length, get_or}
+use Rattle.std.specs.Prelude.{◌≡◌, refl, Bool, false, ◌&&◌, ◌||◌, List, [], ◌∷◌, ℕ, ◌≤◌, ◌<◌, length, get_or, Some}
 use Rattle.std.proofs.Common.{sym, ◌∙◌, arith, get_or-take}
-use Rattle.std.proofs.Math.Bool.{true, not, and-true, and-false}
-use borrow.Author.Tests.{eqb-true, eqb-false, eq-eqb, ne_eqb, leb-true, le-leb, lt-leb, not-true}
+use Rattle.std.proofs.Math.Bool.{true, not}
+use borrow.Author.Tests.{eqb-true, eq-eqb, ne_eqb, not-true}
 use Rattle.std.proofs.Math.Dec.{eqb}
 use Rattle.std.specs.Prelude.{if◌then◌else◌}
-use Rattle.slot.specs.Attributes.{most_stored, good_attributes, same_width}
+use Rattle.slot.specs.Attributes.{same_width}
 use Rattle.slot.specs.declared.KeyPosition.{KeyPosition}
 use Rattle.store.specs.Lists.{at, keep, every}
 use Rattle.store.specs.Model.{Model, no_entry, no_edge, shape_at, edge_at}
@@ -18,24 +18,17 @@ use Rattle.store.specs.declared.Edge.{Edge}
 use Rattle.rules.specs.Numbers.{good_key}
 use Rattle.rules.specs.Shapes.{has, shared, is_child, table_of, entries}
 use Rattle.rules.specs.Steps.{Step, insert, configure, prototype, edge_kind, may_step}
-use Rattle.rules.specs.Sound.{in_range, tables_good, step_of, leads, children_stepped, good_label, good_child}
+use Rattle.rules.specs.Sound.{in_range, tables_good, step_of, leads, children_stepped, good_child}
 use Rattle.rules.specs.InUse.{EdgeRanges, each-shape, edge-ranges, shared_used, Tabled, tabled}
-use Rattle.key_position.specs.Positions.{position_of, Stands, stands_at, stands_nowhere}
-use Rattle.key_position.specs.declared.OptionalPosition.TheVariants.{At, Nothing}
+use Rattle.key_position.specs.Positions.{position_of, Stands, stands_at}
 use Rattle.sound_shapes.specs.Keys.{good_entries_lem, tabled_long}
-use Rattle.sound_shapes.specs.Tests.{width_fits, LiveFits, edge_kind_of, leads_to, Keyed}
-use Rattle.sound_shapes.specs.Tests.{good_edge, TablesKnown}
+use Rattle.sound_shapes.specs.Tests.{width_fits, LiveFits, Keyed}
+use Rattle.sound_shapes.specs.Tests.{TablesKnown}
 
 -- ## The width of a key that is held
 
 module _ (m : Model) (s : Shape) (known : Keyed m s) where
-  pub entry_attributes : (k : ℕ) {e : Entry} → e ≡ get_or (table_of m s) k no_entry → e.attributes ≤ most_stored
-  entry_attributes k {e} q =
-      let test : Entry → Bool = λ x. good_attributes x.attributes in
-      let its = every-place no_entry test (table_of m s) refl known.good (suc k) in
-      leb-true e.attributes most_stored (rw q its)
-
-  module _ (k : ℕ) {p : KeyPosition} (there : position_of k (entries m s) ≡ At p) where
+  module _ (k : ℕ) {p : KeyPosition} (there : position_of k (entries m s) ≡ Some p) where
     key_stands : Stands k (entries m s) p.0
     key_stands = stands_at k (entries m s) there
 
@@ -47,10 +40,6 @@ module _ (m : Model) (s : Shape) (known : Keyed m s) where
     held-answer absent a read answer =
         let its = get_or-take s.properties (table_of m s) p.0 no_entry held-inside in
         rw (key_stands.held, key_stands.attributes, its, ← read) answer
-
-pub absent_answer : (k a : ℕ) (es : List Entry) (absent : Bool) → position_of k es ≡ Nothing
-    → absent ≡ width_fits absent k a es
-absent_answer k a es absent nowhere = rw (stands_nowhere k es nowhere).held
 
 -- ## What a parent has
 
@@ -109,64 +98,7 @@ step_fits kind e es = go (eqb kind 0) (eqb kind 1)
 
 -- ## Ways out
 
--- The step kinds of each kind of edge.
-edge_kind_lem : (k : ℕ) (e : Edge) → edge_kind (step_of k e) ≡ edge_kind_of k
-edge_kind_lem k e = first (eqb k 0) refl
-  where
-    first : (b : Bool) → eqb k 0 ≡ b → edge_kind (step_of k e) ≡ edge_kind_of k
-    first true q = rw (eqb-true k 0 q)
-    first false q = second (eqb k 1) refl
-      where
-        second : (b : Bool) → eqb k 1 ≡ b → edge_kind (step_of k e) ≡ edge_kind_of k
-        second true r = rw (eqb-true k 1 r)
-        second false r =
-            let some = eqb-false k 0 q in
-            let more = eqb-false k 1 r in
-            rw (q, r, lt-leb k 1 (omega arith))
-
-pub leads-answer : (s : Shape) (e : Edge) {kind : ℕ} → kind ≡ edge_kind_of s.step
-    → (eqb s.state 1 && eqb s.previous e.parent && eqb kind e.kind) ≡ leads_to s e
-leads-answer s e q = rw (q, edge_kind_lem s.step e)
-
-module _ (s : Shape) (e : Edge) where
-  pub no_child : e.child ≡ 0 → true ≡ good_child s e
-  no_child q = rw q
-
-  pub child-answer : (e.child ≡ 0 → ⊥) → {r : Bool} {t : Shape} → t ≡ s → r ≡ leads_to t e → r ≡ good_child s e
-  child-answer q read answer = rw (ne_eqb e.child 0 q, ← read) answer
-
-module _ (es : List Entry) (e : Edge) where
-  pub prototype_label : (e.kind ≡ 0 → ⊥) → eqb e.attributes 0 ≡ good_label es e
-  prototype_label q = rw (ne_eqb e.kind 0 q)
-
-  module _ (property : e.kind ≡ 0) where
-    pub bad_attributes : most_stored < e.attributes → false ≡ good_label es e
-    bad_attributes q = rw (property, lt-leb e.attributes most_stored q) (never (good_key e.label) _)
-      where
-        never : (a b : Bool) → false ≡ (a && false && b)
-        never true b = refl
-        never false b = refl
-
-    pub label_answer : e.attributes ≤ most_stored → {good fits : Bool} → good ≡ good_key e.label
-        → fits ≡ width_fits true e.label e.attributes es
-        → (good && fits) ≡ good_label es e
-    label_answer q good fits =
-        let key = good_key e.label in
-        rw (property, le-leb e.attributes most_stored q, good, fits, and-true) (same key (has e.label es) _)
-      where
-        same : (a b c : Bool) → (a && (if b then c else true)) ≡ (a && (not b || c))
-        same a true c = refl
-        same a false c = refl
-
-    pub live_answer : e.attributes ≤ most_stored → {good : Bool} → good ≡ good_key e.label → e.child ≢ 0
-        → LiveFits es e → good ≡ good_label es e
-    live_answer q {good} known some fits =
-        sym (and-true good) ∙ label_answer q known (sym (fits some property))
-
 module _ (m : Model) (n : ℕ) {e : Edge} (read : e ≡ edge_at m n) where
-  pub free_edge_good : e.parent ≡ 0 → true ≡ good_edge m (edge_at m n)
-  free_edge_good q = rw (← read, q)
-
   module _ (in_use : e.parent ≡ 0 → ⊥) where
     its-ranges : in_range m ≡ true → EdgeRanges m e
     its-ranges known = rw read (edge-ranges m known n (rw (← read) (ne_eqb e.parent 0 in_use)))
@@ -178,18 +110,7 @@ module _ (m : Model) (n : ℕ) {e : Edge} (read : e ≡ edge_at m n) where
     child_in_range known = (its-ranges known).child
 
     module _ {p : Shape} (parent : p ≡ shape_at m e.parent) where
-      pub not-shared : (p.state ≡ 1 → ⊥) → false ≡ good_edge m (edge_at m n)
-      not-shared q = rw (← read, ne_eqb e.parent 0 in_use, ← parent, ne_eqb p.state 1 q)
-
-      pub bad-child : good_child (shape_at m e.child) e ≡ false → false ≡ good_edge m (edge_at m n)
-      bad-child fails = rw (← read, ne_eqb e.parent 0 in_use, fails, and-false)
-
       module _ (child : good_child (shape_at m e.child) e ≡ true) where
-        pub edge-answer : p.state ≡ 1 → {label : Bool} → label ≡ good_label (entries m p) e
-            → label ≡ good_edge m (edge_at m n)
-        edge-answer q label =
-            rw (← read, ne_eqb e.parent 0 in_use, ← parent, q, child, and-true) label
-
         -- The step to the child has tested the width.
         pub live_fits : children_stepped m ≡ true → LiveFits (entries m p) e
         unfolding children_stepped edge_at

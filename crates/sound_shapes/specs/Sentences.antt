@@ -1,18 +1,33 @@
 -- Each sentence of soundness is its test of every record.
 -- Assumes nothing.
-use Rattle.std.specs.Prelude.{◌≡◌, Bool, true, false, ◌&&◌, ◌||◌, List, [], ◌∷◌, map, ℕ, suc}
+use Rattle.std.specs.Prelude.{◌≡◌, Bool, true, false, ◌&&◌, ◌||◌, List, [], ◌∷◌, map, ℕ, suc, ◌+◌, length, get_or}
+use Rattle.std.specs.List.{list_all, range_with_len}
 use Rattle.std.proofs.Math.Path.{refl, ap}
-use Rattle.std.proofs.Common.{sym, ◌∙◌, ap₂}
+use Rattle.std.proofs.Common.{sym, ◌∙◌, ap₂, arith, add-zero, zero-add}
 use Rattle.std.proofs.Math.Bool.{or-true, or-and_distrib_left}
 use Rattle.store.specs.Lists.{numbered, every, all}
 use Rattle.store.specs.Model.{Model, free_shape}
 use Rattle.store.specs.declared.Shape.{Shape}
 use Rattle.rules.specs.Sound.{each_shape, in_range, table_in_use, free_zero, counts_fit, roots_zero}
 use Rattle.rules.specs.Sound.{edges_good, transitions_limited, holds_limited, uniques_zero}
-use Rattle.sound_shapes.specs.Tests.{shape_tests, asked}
-use Rattle.sound_shapes.specs.declared.Sentence.TheVariants.{ShapesInRange, EdgesInRange}
-use Rattle.sound_shapes.specs.declared.Sentence.TheVariants.{FreeShapesZero, FreeEdgesZero}
-use Rattle.sound_shapes.specs.declared.Sentence.TheVariants.{ShapesGood, EdgesGood}
+use Rattle.sound_shapes.specs.Tests.{shape_tests, shape_in_range, edge_in_range}
+use Rattle.sound_shapes.specs.Tests.{shape_zero_if_free, edge_zero_if_free, good_shape, good_edge}
+
+-- ## Places in turn
+
+-- A test of each place is the test of each record.
+pub every_place : {A : Type 0} (d : A) (test : A → Bool) (xs : List A) {probe : ℕ → Bool} {n : ℕ}
+    → n ≡ length xs → ((k : ℕ) → probe k ≡ test (get_or xs k d))
+    → list_all probe (range_with_len 0 n) ≡ every test xs
+every_place {A} d test xs {probe} e h = rw e (from 0 xs (λ k. rw (zero-add k) (h k)))
+  where
+    from : (a : ℕ) (ys : List A) → ((k : ℕ) → probe (a + k) ≡ test (get_or ys k d))
+        → list_all probe (range_with_len a (length ys)) ≡ every test ys
+    from a [] here = refl
+    from a (y ∷ ys) here =
+        let first = here 0 in
+        ap₂ ◌&&◌ (rw (add-zero a) at first)
+        (from (a + 1) ys (λ k. let next : a + 1 + k ≡ a + suc k = omega arith in rw next (here (suc k))))
 
 -- ## Tests joined
 
@@ -68,11 +83,13 @@ all_join m (test ∷ tests) =
 -- ## Every record
 
 module _ (m : Model) where
-  pub in_range_lem : in_range m ≡ ((asked m ShapesInRange).from 0 && (asked m EdgesInRange).from 0)
+  pub in_range_lem : in_range m
+      ≡ (every (shape_in_range (length m.shapes) (length m.tables)) m.shapes
+      && every (edge_in_range (length m.shapes)) m.edges)
   unfolding in_range
-  in_range_lem = ap (λ (b : Bool). b && (asked m EdgesInRange).from 0) (unplaced _ 1 m.shapes)
+  in_range_lem = ap (λ (b : Bool). b && every (edge_in_range (length m.shapes)) m.edges) (unplaced _ 1 m.shapes)
 
-  pub free_zero_lem : free_zero m ≡ ((asked m FreeShapesZero).from 0 && (asked m FreeEdgesZero).from 0)
+  pub free_zero_lem : free_zero m ≡ (every shape_zero_if_free m.shapes && every edge_zero_if_free m.edges)
   unfolding free_zero
   free_zero_lem = refl
 
@@ -84,10 +101,10 @@ module _ (m : Model) where
       ∷ holds_limited m
       ∷ uniques_zero m
       ∷ [])
-      ≡ (asked m ShapesGood).from 0
+      ≡ every (good_shape m) m.shapes
   unfolding table_in_use counts_fit roots_zero transitions_limited holds_limited uniques_zero
   shapes_good = all_join m (shape_tests m) ∙ unplaced _ 1 m.shapes
 
-  pub edges_good_lem : edges_good m ≡ (asked m EdgesGood).from 0
+  pub edges_good_lem : edges_good m ≡ every (good_edge m) m.edges
   unfolding edges_good
   edges_good_lem = refl

@@ -1,12 +1,11 @@
 -- The sentences of soundness about a shape's and an edge's own fields, each as a test of one record.
 -- Assumes nothing.
-use Rattle.std.specs.Prelude.{◌≡◌, refl, Bool, true, false, ◌&&◌, ◌||◌, not, List, [], ◌∷◌, map, ◌≢◌, ℕ, ◌+◌, eqb, ltb, leb, length}
+use Rattle.std.specs.Prelude.{◌≡◌, Bool, true, ◌&&◌, ◌||◌, not, List, [], ◌∷◌, map, ◌≢◌, ℕ, eqb, ltb, leb, length}
 use Rattle.std.specs.Prelude.{if◌then◌else◌}
 use Rattle.slot.specs.Attributes.{good_attributes, same_width}
 use Rattle.store.specs.Lists.{every, all, zeros}
-use Rattle.store.specs.Scans.{Scan, every_scan, shape-next, edge-next}
-use Rattle.store.specs.Model.{Model, no_shape, no_edge, free_shape, free_table, free_edge}
-use Rattle.store.specs.Model.{shape_at, table_at, edge_at}
+use Rattle.store.specs.Model.{Model, free_shape, free_table, free_edge}
+use Rattle.store.specs.Model.{shape_at, table_at}
 use Rattle.store.specs.Layout.{shape_words, edge_words}
 use Rattle.store.specs.declared.Shape.{Shape}
 use Rattle.store.specs.declared.Entry.{Entry}
@@ -16,10 +15,6 @@ use Rattle.rules.specs.Steps.{configure_step_kind, property_edge_kind, prototype
 use Rattle.rules.specs.Sound.{shape_ranged, edge_ranged, in_range, table_in_use, tables_good, counts_fit, step_of}
 use Rattle.rules.specs.Sound.{children_stepped, good_label, good_child}
 use Rattle.rules.specs.InUse.{Tabled}
-use Rattle.sound_shapes.specs.declared.Sentence.{Sentence}
-use Rattle.sound_shapes.specs.declared.Sentence.TheVariants.{ShapesInRange, EdgesInRange}
-use Rattle.sound_shapes.specs.declared.Sentence.TheVariants.{FreeShapesZero, FreeEdgesZero}
-use Rattle.sound_shapes.specs.declared.Sentence.TheVariants.{ShapesGood, EdgesGood}
 
 -- ## One record
 
@@ -97,15 +92,6 @@ good_edge m e =
 
 -- ## Every record
 
--- What a sentence asks of each record after the other.
-abbrev pub asked : Model → Sentence → Scan Bool
-asked m ShapesInRange = every_scan no_shape (shape_in_range (length m.shapes) (length m.tables)) m.shapes
-asked m EdgesInRange = every_scan no_edge (edge_in_range (length m.shapes)) m.edges
-asked m FreeShapesZero = every_scan no_shape shape_zero_if_free m.shapes
-asked m FreeEdgesZero = every_scan no_edge edge_zero_if_free m.edges
-asked m ShapesGood = every_scan no_shape (good_shape m) m.shapes
-asked m EdgesGood = every_scan no_edge (good_edge m) m.edges
-
 -- What a sentence takes for granted.
 pub record TablesKnown (m : Model) : Type 0 where
   pub ranges : in_range m ≡ true
@@ -117,40 +103,3 @@ pub record TablesKnown (m : Model) : Type 0 where
 pub record StepsKnown (m : Model) : Type 0 where
   pub tables : TablesKnown m
   pub stepped : children_stepped m ≡ true
-
-abbrev pub Granted : Model → Sentence → Type 0
-Granted m ShapesInRange = Unit {0}
-Granted m EdgesInRange = Unit {0}
-Granted m FreeShapesZero = Unit {0}
-Granted m FreeEdgesZero = Unit {0}
-Granted m ShapesGood = in_range m ≡ true
-Granted m EdgesGood = StepsKnown m
-
--- The record at a place.
-unfoldable pub passes : Model → Sentence → (place : ℕ) → Bool
-passes m ShapesInRange n = shape_in_range (length m.shapes) (length m.tables) (shape_at m n)
-passes m EdgesInRange n = edge_in_range (length m.shapes) (edge_at m n)
-passes m FreeShapesZero n = shape_zero_if_free (shape_at m n)
-passes m FreeEdgesZero n = edge_zero_if_free (edge_at m n)
-passes m ShapesGood n = good_shape m (shape_at m n)
-passes m EdgesGood n = good_edge m (edge_at m n)
-
-pub passes_here : (m : Model) (sentence : Sentence) (k : ℕ) {b : Bool} → b ≡ passes m sentence (k + 1)
-    → not b ≡ (asked m sentence).stops k
-unfolding passes
-passes_here m ShapesInRange k e = rw (e, shape-next m k)
-passes_here m EdgesInRange k e = rw (e, edge-next m k)
-passes_here m FreeShapesZero k e = rw (e, shape-next m k)
-passes_here m FreeEdgesZero k e = rw (e, edge-next m k)
-passes_here m ShapesGood k e = rw (e, shape-next m k)
-passes_here m EdgesGood k e = rw (e, edge-next m k)
-
--- The first that fails decides, and else all pass.
-pub decided : (m : Model) (sentence : Sentence) (k : ℕ)
-    → (false ≡ (asked m sentence).says k) × (true ≡ (asked m sentence).otherwise)
-decided m ShapesInRange k = (refl, refl)
-decided m EdgesInRange k = (refl, refl)
-decided m FreeShapesZero k = (refl, refl)
-decided m FreeEdgesZero k = (refl, refl)
-decided m ShapesGood k = (refl, refl)
-decided m EdgesGood k = (refl, refl)

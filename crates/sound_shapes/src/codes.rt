@@ -1,5 +1,5 @@
 // Whether no two edges agree: each edge has a code, and edges that differ have codes that differ.
-ghost use Rattle.std.specs.Prelude.{◌≡◌, true, ◌≤◌, length, take};
+ghost use Rattle.std.specs.Prelude.{◌≡◌, ◌≤◌, length, take};
 ghost use Rattle.std.specs.Prelude.{if◌then◌else◌};
 ghost use Rattle.store.specs.Model.{free_edge};
 ghost use Rattle.store.specs.Layout.{parse};
@@ -10,7 +10,6 @@ ghost use Rattle.sound_shapes.specs.Codes.{Coded, EdgesKnown, edge_code, edge_co
 use distinct::first_are_distinct;
 use store::Edge;
 use store::image::{edge_count, get_edge};
-use store::rows::wide;
 
 // A free edge takes its place for its label: it agrees with no other, since no edge in use has
 // parent 0.
@@ -24,8 +23,8 @@ fn edge_code(e: Edge, place: u32) -> u64
     requires { Coded e }
     ensures { result ≡ edge_code place e }
 {
-    let named = (label_or_place(e, place) as u64) * 65536 + (e.parent as u64);
-    (named * 2 + (e.kind as u64)) * 32 + (e.attributes as u64)
+    let named = u64::from(label_or_place(e, place)) * 65536 + u64::from(e.parent);
+    (named * 2 + u64::from(e.kind)) * 32 + u64::from(e.attributes)
 }
 
 fn write_codes(image: &[u32], codes: &mut [u64])
@@ -35,12 +34,8 @@ fn write_codes(image: &[u32], codes: &mut [u64])
     ensures { take (length (parse image.now).edges) codes.new
         ≡ edge_codes 1 (parse image.now).edges }
 {
-    let count = edge_count(image);
-    let mut done = 0;
-    while done < count {
-        let place = wide(done);
-        codes[place] = edge_code(get_edge(image, done + 1), done + 1);
-        done += 1;
+    for done in 0..edge_count(image) {
+        codes[done as usize] = edge_code(get_edge(image, done + 1), done + 1);
     }
 }
 
@@ -53,5 +48,5 @@ pub fn edges_differ(image: &[u32], codes: &mut [u64], room: &mut [u32]) -> bool
     ensures { result ≡ edges_differ (parse image.now) }
 {
     write_codes(image, codes);
-    first_are_distinct(codes, wide(edge_count(image)), room)
+    first_are_distinct(codes, edge_count(image) as usize, room)
 }

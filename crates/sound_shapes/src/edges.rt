@@ -2,7 +2,6 @@
 ghost use Rattle.std.specs.Prelude.{◌≡◌};
 ghost use Rattle.sound_shapes.specs.Tests.{edge_in_range, edge_zero_if_free};
 
-use crate::zeros::are_zero;
 use store::{Edge, EdgeKind};
 
 pub fn edge_in_range(e: Edge, shapes: u32) -> bool
@@ -14,5 +13,5 @@ pub fn edge_in_range(e: Edge, shapes: u32) -> bool
 pub fn edge_zero_if_free(e: Edge) -> bool
     ensures { result ≡ edge_zero_if_free e }
 {
-    !(e.parent == 0) | are_zero(e.parent, e.kind, e.label, e.attributes, e.child)
+    (e.parent != 0) | ([e.parent, e.kind, e.label, e.attributes, e.child] == [0; 5])
 }

@@ -4,10 +4,10 @@
 ghost use Rattle.std.specs.Prelude.{◌≡◌, true, [], ◌∷◌};
 ghost use Rattle.store.specs.Lists.{all};
 ghost use Rattle.store.specs.Layout.{parse};
-ghost use Rattle.store.specs.Image.{Formed, Place};
+ghost use Rattle.store.specs.Image.{Formed};
 ghost use Rattle.rules.specs.Sound.{in_range, table_in_use, free_zero, counts_fit, roots_zero};
 ghost use Rattle.rules.specs.Sound.{edges_good, transitions_limited, holds_limited, uniques_zero};
-ghost use Rattle.sound_shapes.specs.Tests.{StepsKnown, asked, Granted, passes};
+ghost use Rattle.sound_shapes.specs.Tests.{StepsKnown};
 
 use crate::edges::{edge_in_range, edge_zero_if_free};
 use crate::labels::edge_is_good;
@@ -19,63 +19,18 @@ mod edges;
 mod labels;
 mod shapes;
 pub mod widths;
-mod zeros;
 
 pub use codes::edges_differ;
-
-// What is asked of each shape or of each edge.
-#[derive(Clone, Copy)]
-pub enum Sentence {
-    ShapesInRange,
-    EdgesInRange,
-    FreeShapesZero,
-    FreeEdgesZero,
-    ShapesGood,
-    EdgesGood,
-}
-
-// Whether the record at a place is as the sentence says.
-fn record_passes(image: &[u32], sentence: Sentence, n: u32) -> bool
-    requires formed { Formed image.now }
-    requires granted { Granted (parse image.now) sentence }
-    requires place { Place (asked (parse image.now) sentence).many n }
-    ensures { result ≡ passes (parse image.now) sentence n }
-{
-    match sentence {
-        Sentence::ShapesInRange => {
-            shape_in_range(get_shape(image, n), shape_count(image), table_count(image))
-        }
-        Sentence::EdgesInRange => edge_in_range(get_edge(image, n), shape_count(image)),
-        Sentence::FreeShapesZero => shape_zero_if_free(get_shape(image, n)),
-        Sentence::FreeEdgesZero => edge_zero_if_free(get_edge(image, n)),
-        Sentence::ShapesGood => shape_is_good(image, n),
-        Sentence::EdgesGood => edge_is_good(image, n),
-    }
-}
-
-fn every_record_passes(image: &[u32], sentence: Sentence, count: u32) -> bool
-    requires formed { Formed image.now }
-    requires granted { Granted (parse image.now) sentence }
-    requires count_value { count ≡ (asked (parse image.now) sentence).many }
-    ensures { result ≡ (asked (parse image.now) sentence).from 0 }
-{
-    let mut done = 0;
-    while done < count {
-        if !record_passes(image, sentence, done + 1) {
-            return false;
-        }
-        done += 1;
-    }
-    true
-}
 
 // "States, kinds and places are in range;"
 pub fn in_range(image: &[u32]) -> bool
     requires { Formed image.now }
     ensures { result ≡ in_range (parse image.now) }
 {
-    every_record_passes(image, Sentence::ShapesInRange, shape_count(image))
-        & every_record_passes(image, Sentence::EdgesInRange, edge_count(image))
+    let shapes = shape_count(image);
+    let tables = table_count(image);
+    (0..shapes).all(|done| shape_in_range(get_shape(image, done + 1), shapes, tables))
+        & (0..edge_count(image)).all(|done| edge_in_range(get_edge(image, done + 1), shapes))
 }
 
 // "free records and unused entries are zero.", of the records
@@ -83,8 +38,8 @@ pub fn free_are_zero(image: &[u32]) -> bool
     requires { Formed image.now }
     ensures { result ≡ free_zero (parse image.now) }
 {
-    every_record_passes(image, Sentence::FreeShapesZero, shape_count(image))
-        & every_record_passes(image, Sentence::FreeEdgesZero, edge_count(image))
+    (0..shape_count(image)).all(|done| shape_zero_if_free(get_shape(image, done + 1)))
+        & (0..edge_count(image)).all(|done| edge_zero_if_free(get_edge(image, done + 1)))
 }
 
 // The sentences about a shape's own fields and its table's length, in one pass.
@@ -100,7 +55,7 @@ pub fn shapes_good(image: &[u32]) -> bool
         ∷ uniques_zero (parse image.now)
         ∷ []) }
 {
-    every_record_passes(image, Sentence::ShapesGood, shape_count(image))
+    (0..shape_count(image)).all(|done| shape_is_good(image, done + 1))
 }
 
 // What an edge says of its parent, its key or prototype, and its child.
@@ -109,5 +64,5 @@ pub fn edges_good(image: &[u32]) -> bool
     requires steps_known { StepsKnown (parse image.now) }
     ensures { result ≡ edges_good (parse image.now) }
 {
-    every_record_passes(image, Sentence::EdgesGood, edge_count(image))
+    (0..edge_count(image)).all(|done| edge_is_good(image, done + 1))
 }

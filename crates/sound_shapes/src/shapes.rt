@@ -9,7 +9,6 @@ ghost use Rattle.sound_shapes.specs.Tests.{root_zero};
 ghost use Rattle.sound_shapes.specs.Tests.{transitions_few, holds_few, unique_zero, own_fields};
 ghost use Rattle.sound_shapes.specs.Tests.{good_shape};
 
-use crate::zeros::are_zero;
 use store::image::{entry_count, get_shape, table_is_free};
 use store::{Shape, ShapeState, StepKind};
 
@@ -26,16 +25,20 @@ pub fn shape_in_range(s: Shape, shapes: u32, tables: u32) -> bool
 pub fn shape_zero_if_free(s: Shape) -> bool
     ensures { result ≡ shape_zero_if_free s }
 {
-    let front = are_zero(s.state, s.holds, s.previous, s.step, s.transitions);
     let counters = s.counters;
-    let back = are_zero(
+    let words = [
+        s.state,
+        s.holds,
+        s.previous,
+        s.step,
+        s.transitions,
         s.properties,
         s.prototype,
         s.table,
         counters.property,
         counters.prototype,
-    );
-    !(s.state == ShapeState::FREE) | (front & back)
+    ];
+    (s.state != ShapeState::FREE) | (words == [0; 10])
 }
 
 // "A shape's property count is at most its table's length, equal for a unique."
@@ -53,7 +56,7 @@ fn count_fits(s: Shape, long: u32) -> bool
 fn root_is_zero(s: Shape) -> bool
     ensures { result ≡ root_zero s }
 {
-    let zero = are_zero(s.previous, s.step, s.transitions, s.properties, s.prototype);
+    let zero = [s.previous, s.step, s.transitions, s.properties, s.prototype] == [0; 5];
     !((s.state == ShapeState::SHARED) & (s.previous == 0)) | zero
 }
 
@@ -76,14 +79,14 @@ fn unique_is_zero(s: Shape) -> bool
     ensures { result ≡ unique_zero s }
 {
     let counters = s.counters;
-    let zero = are_zero(
+    let words = [
         s.previous,
         s.step,
         s.transitions,
         counters.property,
         counters.prototype,
-    );
-    !(s.state == ShapeState::UNIQUE) | zero
+    ];
+    (s.state != ShapeState::UNIQUE) | (words == [0; 5])
 }
 
 fn own_fields_are_good(s: Shape, long: u32) -> bool
@@ -97,15 +100,13 @@ fn own_fields_are_good(s: Shape, long: u32) -> bool
 }
 
 // "a shape's table is in use;": none stands at place 0.
+#[tactic(auto, using(crate::specs::Answers::no_table_zero))]
 fn is_table(image: &[u32], t: u32) -> bool
     requires formed { Formed image.now }
     requires t_in_bounds { t ≤ length (parse image.now).tables }
     ensures { result ≡ not (free_table (table_at (parse image.now) t)) }
 {
-    if t == 0 {
-        return false;
-    }
-    !table_is_free(image, t)
+    t != 0 && !table_is_free(image, t)
 }
 
 pub fn shape_is_good(image: &[u32], n: u32) -> bool
@@ -118,8 +119,5 @@ pub fn shape_is_good(image: &[u32], n: u32) -> bool
     if s.state == ShapeState::FREE {
         return true;
     }
-    if is_table(image, s.table) {
-        return own_fields_are_good(s, entry_count(image, s.table));
-    }
-    false
+    is_table(image, s.table) && own_fields_are_good(s, entry_count(image, s.table))
 }

@@ -5,7 +5,7 @@ ghost use Rattle.store.specs.Image.{Formed};
 ghost use Rattle.rules.specs.Shapes.{entries};
 ghost use Rattle.sound_shapes.specs.Tests.{Keyed, width_fits};
 
-use key_position::{OptionalPosition, position_of};
+use key_position::{FirstEntries, position_of};
 use slot::SlotAttributes;
 use store::Shape;
 use store::image::get_entry;
@@ -23,9 +23,9 @@ pub fn width_fits(
     requires keyed { Keyed (parse image.now) s }
     ensures { result ≡ width_fits absent key attributes.0 (entries (parse image.now) s) }
 {
-    match position_of(image, s.table, s.properties, key) {
-        OptionalPosition::Nothing => absent,
-        OptionalPosition::At(position) => {
+    match position_of(image, FirstEntries::of(s), key) {
+        None => absent,
+        Some(position) => {
             let held = get_entry(image, s.table, position);
             SlotAttributes(held.attributes as u8).width_match(attributes)
         }

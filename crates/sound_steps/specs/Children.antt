@@ -1,8 +1,8 @@
 -- A child against its previous and its one edge, and every child.
 -- Assumes nothing.
-use Rattle.std.specs.Prelude.{◌≡◌, Bool, true, false, ◌&&◌, ◌||◌, not, [], ◌∷◌, ◌≢◌, ℕ, ◌+◌, ◌≤◌, eqb, length}
+use Rattle.std.specs.Prelude.{◌≡◌, Bool, true, false, ◌&&◌, ◌||◌, not, [], ◌∷◌, ◌≢◌, ℕ, ◌+◌, eqb, length}
 use Rattle.std.proofs.Common.{sym, ap, ◌∙◌, arith}
-use Rattle.std.proofs.Math.Bool.{and-true, and-false, or-true}
+use Rattle.std.proofs.Math.Bool.{and-true}
 use Rattle.std.proofs.lemmas.Bool.{eqb-false, not-true}
 use Rattle.store.specs.Lists.{numbered, every, only_one}
 use Rattle.store.specs.ListLaws.{and_both}
@@ -16,7 +16,7 @@ use Rattle.rules.specs.Sound.{in_range, edges_to, step_of, leads, children_linke
 use Rattle.rules.specs.InUse.{shared_used, shape-ranges, Tabled, tabled}
 use Rattle.sound_shapes.specs.Tests.{TablesKnown}
 use Rattle.sound_shapes.specs.Sentences.{every-joins}
-use Rattle.sound_steps.specs.Links.{Marked, no_place, not-one, the_one}
+use Rattle.sound_steps.specs.Links.{Marked, no_place, the_one}
 
 -- ## The two sentences, of one shape
 
@@ -62,9 +62,6 @@ abbrev pub joins : (previous child : Shape) → Edge → Bool
 joins p s e = shared p && eqb s.transitions (p.transitions + 1) && eqb e.parent s.previous
 
 module _ (m : Model) (n : ℕ) {s : Shape} (its : s ≡ shape_at m n) where
-  pub no_child : is_child s ≡ false → true ≡ follows m (n, shape_at m n)
-  no_child e = rw (← its, e, or-true)
-
   module _ (c : is_child s ≡ true) where
     pub previous_place : in_range m ≡ true → Place (length m.shapes) s.previous
     previous_place e =
@@ -83,10 +80,6 @@ module _ (m : Model) (n : ℕ) {s : Shape} (its : s ≡ shape_at m n) where
       as_child = rw (← its, ← previous, shared_used s (and_both (shared s) c).0, c)
 
       module _ {mark : ℕ} (marked : Marked m.edges (edges_to m n) mark) where
-        pub no_edge_lem : length m.edges ≤ 65535 → no_place mark ≡ true → false ≡ follows m (n, shape_at m n)
-        no_edge_lem few none =
-            rw (as_child, ← (not-one few marked none (λ e. eqb e.parent s.previous)), and-false)
-
         module _ (named : no_place mark ≡ false) {edge : Edge} (read : edge ≡ edge_at m mark) where
           alone : edges_to m n ≡ edge ∷ []
           unfolding edge_at

@@ -1,11 +1,10 @@
 -- What the marks of the edges by child say.
 -- Assumes nothing.
-use Rattle.std.specs.Prelude.{◌≡◌, refl, Bool, true, false, ◌||◌, ◌⊎◌, ◌≢◌, ℕ, zero, suc, ◌+◌, ◌≤◌, ◌<◌, eqb, length, get_or, set, take, replicate}
+use Rattle.std.specs.Prelude.{◌≡◌, refl, Bool, false, ◌||◌, ◌⊎◌, ◌≢◌, ℕ, ◌+◌, ◌≤◌, ◌<◌, eqb, length, get_or, set, take}
 use Rattle.std.proofs.Common.{sym, ap, ◌∙◌, inl, inr, add-one, arith, ne_eqb, eq-eqb, length-set, take-suc, take_all, get_or-set_same, get_or-set_other}
 use mathlib.Core.List.{List, [], ◌∷◌, ◌++◌, append-nil}
-use Rattle.std.proofs.lemmas.List.{length-replicate}
 use Rattle.std.specs.Prelude.{if◌then◌else◌}
-use Rattle.store.specs.Lists.{at, keep, only_one}
+use Rattle.store.specs.Lists.{at, keep}
 use Rattle.store.specs.ListLaws.{keep_append, not-both}
 use Rattle.store.specs.PlaceLaws.{same?}
 use Rattle.store.specs.Model.{Model, no_edge, edge_at}
@@ -36,20 +35,6 @@ pub record Marking (m : Model) (done : ℕ) (marks : List ℕ) : Type 0 where
   pub within : done ≤ length m.edges
   pub each : (n : ℕ) → 1 ≤ n → n < length marks
       → Marked m.edges (keep (leads_to n) (take done m.edges)) (get_or marks n 0)
-
-get_or_zeros : (many n : ℕ) → ◌≡◌ {A = ℕ} (get_or (replicate many 0) n 0) 0
-get_or_zeros zero n = refl
-get_or_zeros (suc many) zero = refl
-get_or_zeros (suc many) (suc n) = get_or_zeros many n
-
-pub unmarked : (m : Model) {marks : List ℕ} (many : ℕ) → marks ≡ replicate many 0 → length m.shapes < many
-    → Marking m 0 marks
-unmarked m many cleared fits =
-    record {
-      room = rw (cleared, length-replicate) fits;
-      within = omega arith;
-      each = λ n low high. none (rw cleared (get_or_zeros many n)) refl;
-    }
 
 -- One more edge to the child.
 one_more : {all kept : List Edge} {mark : ℕ} (place : ℕ) → Place (length all) place → Marked all kept mark
@@ -115,18 +100,6 @@ module _ {m : Model} {done : ℕ} {marks : List ℕ} (k : Marking m done marks) 
 -- The mark names no place.
 abbrev pub no_place : ℕ → Bool
 no_place mark = eqb mark 0 || eqb mark 65536
-
-place-named : {count mark : ℕ} → count ≤ 65535 → Place count mark → no_place mark ≡ false
-place-named {mark = mark} few p =
-    let low = p.low in
-    let high = p.high in
-    rw (ne_eqb mark 0 (λ z. omega arith), ne_eqb mark 65536 (λ z. omega arith))
-
-pub not-one : {all kept : List Edge} {mark : ℕ} → length all ≤ 65535 → Marked all kept mark
-    → no_place mark ≡ true → (test : Edge → Bool) → false ≡ only_one test kept
-not-one few (none z e) h test = rw e
-not-one few (one p e) h test = not-both h (place-named few p)
-not-one few (several z x y more e) h test = rw e
 
 pub the_one : {all kept : List Edge} {mark : ℕ} → Marked all kept mark → no_place mark ≡ false
     → Place (length all) mark × (kept ≡ at all mark no_edge ∷ [])

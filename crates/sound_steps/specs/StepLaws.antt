@@ -2,7 +2,7 @@
 -- Assumes nothing.
 use Rattle.std.specs.Prelude.{◌≡◌, refl, Bool, true, false, ◌&&◌, not, List, [], ◌∷◌, ◌++◌, map, ◌⊎◌, ◌≢◌, ℕ, zero, suc, ◌+◌, ◌/◌, ◌%◌, ◌≤◌, ◌<◌, eqb, length, get_or, take}
 use Rattle.std.proofs.Common.{sym, ap, ◌∙◌, inl, inr, not-suc-le-zero, le_of_suc-le-suc, arith, eqb-true, ne_eqb, length-append, take-take, get_or-take, length-take-le}
-use Rattle.std.proofs.Math.Bool.{and-true, and-false, and_assoc, and_comm, or-true}
+use Rattle.std.proofs.Math.Bool.{and-true, and-false, and_assoc, or-true}
 use Rattle.std.proofs.lemmas.Bool.{false≢true, not-true}
 use Rattle.std.proofs.lemmas.List.{length-map}
 use Rattle.std.specs.Prelude.{if◌then◌else◌}
@@ -87,14 +87,6 @@ last_agrees (f ∷ fs) (e ∷ es) x l = rw (and_assoc, and_assoc, last_agrees fs
 module _ {kind : ℕ} (edge : Edge) where
   is_prototype : 1 < kind → step_of kind edge ≡ prototype edge.label
   is_prototype l = rw (ne_eqb kind 0 (λ e. omega arith), ne_eqb kind 1 (λ e. omega arith))
-
-  pub other_prototype : (p : ℕ) → 1 < kind → edge.label ≡ step_prototype (step_of kind edge) p
-  other_prototype p l = rw (is_prototype l)
-
-pub same_prototype : (kind : ℕ) (edge : Edge) (p : ℕ) → kind ≤ 1 → p ≡ step_prototype (step_of kind edge) p
-same_prototype zero edge p l = refl
-same_prototype (suc zero) edge p l = refl
-same_prototype (suc (suc kind)) edge p l = absurd (omega arith)
 
 -- GET and SET are names of a stored value.
 low_width : (a : ℕ) → width (a % 32) ≡ width a
@@ -208,9 +200,6 @@ module _ {m : Model} {p s : Shape} (old : Tabled m p) (new : Tabled m s) (edge :
 
 -- ## The whole step
 
-last-first : (same kept may : Bool) → (same && kept && may) ≡ (may && same && kept)
-last-first same kept may = and_comm (same && kept) may ∙ sym (and_assoc may same kept)
-
 known_first : (a b c : Bool) → (b ≡ true → a ≡ true) → (b && c) ≡ (a && b && c)
 known_first a true c f = rw (f refl)
 known_first a false c f = rw and-false
@@ -235,14 +224,6 @@ module _ (m : Model) (p s : Shape) (edge : Edge) where
       (follows : follow ≡ entries_follow m p s edge)
       (becomes : after ≡ step_prototype (step_of s.step edge) p.prototype)
     where
-      pub configure_leads : s.step ≡ 1 → {may : Bool}
-          → may ≡ may_step (configure edge.label edge.attributes) (entries m p)
-          → (follow && eqb s.prototype after && may)
-          ≡ leads (step_of s.step edge) (entries m p) p.prototype (entries m s) s.prototype
-      configure_leads e {may} its =
-          let known : may_step (step_of s.step edge) (entries m p) ≡ may = rw e (sym its) in
-          rw (known, ← follows, ← becomes) (last-first follow (eqb s.prototype after) may)
-
       pub others_lead : s.step ≢ 1 → tables_good m ≡ true
           → (follow && eqb s.prototype after)
           ≡ leads (step_of s.step edge) (entries m p) p.prototype (entries m s) s.prototype

@@ -13,7 +13,6 @@ ghost use Rattle.sound_steps.specs.Children.{follows};
 use crate::links::{edges_by_child, is_child, is_joined, names_no_edge};
 use crate::steps::leads;
 use store::image::{get_edge, get_shape, shape_count};
-use store::rows::wide;
 
 mod links;
 mod steps;
@@ -52,15 +51,11 @@ pub fn children_follow(image: &[u32], marks: &mut [u32]) -> bool
         && children_stepped (parse image.now)) }
 {
     edges_by_child(image, marks);
-    let count = shape_count(image);
-    let mut done = 0;
-    while done < count {
+    for done in 0..shape_count(image) {
         let n = done + 1;
-        let at = wide(n);
-        if !child_follows(image, n, marks[at]) {
+        if !child_follows(image, n, marks[n as usize]) {
             return false;
         }
-        done = n;
     }
     true
 }

@@ -8,10 +8,10 @@ ghost use Rattle.sound_steps.specs.Links.{no_place, with_edge, Marks};
 ghost use Rattle.sound_steps.specs.Children.{joins};
 
 use store::image::{edge_count, get_edge};
-use store::rows::{clear, wide};
+use store::rows::clear;
 use store::{Edge, Shape, ShapeState};
 
-// No place is as high.
+// No place is as high. A number says it and no enum, since the marks are lent words.
 const SEVERAL: u32 = 65536;
 
 // The mark of a child after one more edge to it.
@@ -25,7 +25,7 @@ fn noted(mark: u32, place: u32) -> u32
 fn note(marks: &mut [u32], child: u32, place: u32)
     ensures { marks.new ≡ with_edge marks.old child place }
 {
-    let at = wide(child);
+    let at = child as usize;
     if at < marks.len() {
         marks[at] = noted(marks[at], place);
     }
@@ -38,12 +38,9 @@ pub fn edges_by_child(image: &[u32], marks: &mut [u32])
     ensures { Marks (parse image.now) marks.new }
 {
     clear(marks);
-    let count = edge_count(image);
-    let mut done = 0;
-    while done < count {
+    for done in 0..edge_count(image) {
         let edge = get_edge(image, done + 1);
         note(marks, edge.child, done + 1);
-        done += 1;
     }
 }
 
@@ -64,6 +61,6 @@ pub fn is_joined(p: Shape, s: Shape, edge: Edge) -> bool
     ensures { result ≡ joins p s edge }
 {
     // In 64 bits the sum fits: the counts are not yet known to be small.
-    let one_more = wide(s.transitions) == wide(p.transitions) + 1;
+    let one_more = s.transitions as usize == p.transitions as usize + 1;
     (p.state == ShapeState::SHARED) & one_more & (edge.parent == s.previous)
 }

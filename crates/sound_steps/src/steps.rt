@@ -26,6 +26,7 @@ fn may_configure(image: &[u32], p: Shape, edge: Edge) -> bool
     width_fits(image, p, edge.label, attributes, false)
 }
 
+// Of an entry all but the slot, which no step tells.
 fn is_same(a: Entry, b: Entry) -> bool
     ensures { result ≡ same_pair a b }
 {
@@ -35,12 +36,10 @@ fn is_same(a: Entry, b: Entry) -> bool
 fn entry_after(configures: bool, edge: Edge, e: Entry) -> Entry
     ensures { result ≡ changed configures edge e }
 {
-    let slot = e.slot;
     if configures & (e.key == edge.label) {
         Entry {
-            key: edge.label,
             attributes: edge.attributes,
-            slot,
+            ..e
         }
     } else {
         e
@@ -59,15 +58,13 @@ fn same_first(image: &[u32], p: Shape, s: Shape, edge: Edge, configures: bool) -
     if !configures & (p.table == s.table) {
         return true;
     }
-    let count = p.properties;
-    let mut position = KeyPosition(0);
-    while position.0 < count {
+    for at in 0..p.properties {
+        let position = KeyPosition(at);
         let old = get_entry(image, p.table, position);
         let new = get_entry(image, s.table, position);
         if !is_same(new, entry_after(configures, edge, old)) {
             return false;
         }
-        position.0 += 1;
     }
     true
 }

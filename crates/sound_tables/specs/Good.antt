@@ -1,21 +1,19 @@
 -- The test of the tables' entries: keys, attributes and slots.
 -- Assumes nothing.
-use Rattle.std.specs.Prelude.{◌≡◌, refl, Bool, true, false, ◌&&◌, List, ◌∷◌, map, ℕ, suc, ◌+◌, ◌*◌, ◌≤◌, ◌<◌, eqb, length, get_or, set, take, drop}
-use Rattle.std.proofs.Common.{sym, ap, ◌∙◌, add-one, arith, leb-true, drop-cons}
-use Rattle.std.proofs.Math.Bool.{and-true, and-false, and_assoc}
+use Rattle.std.specs.Prelude.{◌≡◌, refl, Bool, true, false, ◌&&◌, List, ◌∷◌, map, ℕ, suc, ◌+◌, ◌*◌, ◌≤◌, ◌<◌, eqb, length, get_or, set, drop}
+use Rattle.std.proofs.Common.{sym, ap, ◌∙◌, add-one, arith, drop-cons}
+use Rattle.std.proofs.Math.Bool.{and-false}
 use Rattle.std.proofs.lemmas.List.{length-map}
 use Rattle.std.proofs.Math.ListN.{get_or-map}
-use Rattle.std.proofs.Math.Seq.{drop-length}
 use Rattle.std.specs.Prelude.{if◌then◌else◌}
-use Rattle.slot.specs.Attributes.{most_stored, good_attributes, accessor, width}
+use Rattle.slot.specs.Attributes.{good_attributes, accessor, width}
 use Rattle.store.specs.Lists.{every}
-use Rattle.store.specs.ListLaws.{and_both}
 use Rattle.store.specs.Scans.{Scanning, scan, places_scan, table-next}
 use Rattle.store.specs.Model.{Table, free, used, Model, no_entry, entries_of, table_at}
 use Rattle.store.specs.declared.Entry.{Entry}
-use Rattle.distinct.specs.Written.{Written, written_none, written_next, written_all}
+use Rattle.distinct.specs.Written.{Written, written_none, written_next}
 use Rattle.rules.specs.Numbers.{good_key}
-use Rattle.rules.specs.Sound.{on_table, distinct, slots_from, good_entries, tables_good}
+use Rattle.rules.specs.Sound.{on_table, slots_from, good_entries, tables_good}
 
 -- ## Names for parts of the sentence
 
@@ -33,10 +31,6 @@ entries_right es = every good_entry es && slots_from 0 es
 pub record Roomy (m : Model) (codes room : List ℕ) : Type 0 where
   pub for_codes : m.K ≤ length codes
   pub for_seats : m.K ≤ length room
-
--- A lent slice keeps its length.
-pub still_fits : {n long still : ℕ} → n ≤ long → still ≡ long → n ≤ still
-still_fits l e = omega arith
 
 -- ## Entry by entry
 
@@ -62,11 +56,6 @@ first_right e next es =
     go true false c d = sym (and-false c)
     go false b c d = refl
 
-pub attributes_good : (e : Entry) (next : ℕ) {b : Bool} → b ≡ (good_entry e && eqb e.slot.0 next) → b ≡ true
-    → e.attributes ≤ most_stored
-attributes_good e next f g =
-    leb-true e.attributes most_stored (and_both (good_key e.key) (and_both (good_entry e) (sym f ∙ g)).0).1
-
 -- The entries before are right, their keys are written, and `next` is the sum of their widths.
 pub record Right (es : List Entry) (long done next : ℕ) (codes : List ℕ) : Type 0 where
   pub small : next ≤ 2 * done
@@ -86,9 +75,6 @@ module _ {es : List Entry} {codes : List ℕ} {n long done next : ℕ} {e : Entr
         rw (drop-cons es done no_entry (omega arith), add-one, read)
         (first_right (get_or es done no_entry) next (drop (suc done) es))
 
-    pub entry_wrong : {b : Bool} → b ≡ (good_entry e && eqb e.slot.0 next) → b ≡ false → false ≡ entries_right es
-    entry_wrong f g = sym (one_more ∙ rw (← f, g)) ∙ s.same
-
     pub entry_next : {b : Bool} {w p : ℕ} → b ≡ (good_entry e && eqb e.slot.0 next) → b ≡ true
         → w ≡ width e.attributes → p ≡ done → Right es long (done + 1) (next + w) (set codes p e.key)
     entry_next f g wide at =
@@ -103,32 +89,7 @@ module _ {es : List Entry} {codes : List ℕ} {n long done next : ℕ} {e : Entr
               (ap (λ (x : Entry). x.key) read ∙ sym (get_or-map (λ (x : Entry). x.key) es done no_entry));
         }
 
-module _ {es : List Entry} {codes : List ℕ} {n long done next : ℕ} (s : Right es long done next codes)
-    (many : n ≡ length es) (l : n ≤ done)
-  where
-    pub right_all : true ≡ entries_right es
-    right_all =
-        let long_keys = length-map es (λ (x : Entry). x.key) in
-        let within = s.written.within in
-        let all : done ≡ length es = omega arith in
-        rw (all, drop-length es) at s.same
-
-    pub keys-written : take (length es) codes ≡ keys_of es
-    keys-written =
-        let long_keys = length-map es (λ (x : Entry). x.key) in
-        written_all s.written (sym long_keys) (omega arith)
-
 -- ## One table, and all of them
-
-module _ (es : List Entry) where
-  parts : good_entries es ≡ (distinct (keys_of es) && entries_right es)
-  parts = and_assoc (distinct (keys_of es)) (every good_entry es) (slots_from 0 es)
-
-  pub entries_wrong : {b : Bool} → b ≡ entries_right es → b ≡ false → false ≡ good_entries es
-  entries_wrong e f = sym (parts ∙ rw (← e, f, and-false))
-
-  pub keys_decide : {b d : Bool} → b ≡ entries_right es → b ≡ true → d ≡ distinct (keys_of es) → d ≡ good_entries es
-  keys_decide e f k = k ∙ sym (parts ∙ rw (← e, f, and-true))
 
 abbrev pub good_table : ℕ × Table → Bool
 good_table p = on_table (λ t es. good_entries es) p

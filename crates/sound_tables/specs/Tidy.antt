@@ -1,13 +1,12 @@
 -- The test of the tables' words: one table, and all of them; and what it says with the header's test.
 -- Assumes nothing.
-use Rattle.std.specs.Prelude.{◌≡◌, Bool, false, List, [], ℕ, ◌+◌, ◌-◌, ◌*◌, ◌≤◌, ◌<◌, length, get_or, take, drop}
+use Rattle.std.specs.Prelude.{◌≡◌, Bool, List, [], ℕ, ◌+◌, ◌≤◌, ◌<◌, length, get_or, take, drop}
 use Rattle.std.proofs.Math.Path.{sym}
-use Rattle.std.proofs.Common.{ap, ◌∙◌, arith, le-leb, eqb-true, get_or-take}
+use Rattle.std.proofs.Common.{ap, ◌∙◌, arith, eqb-true, get_or-take}
 use Rattle.std.proofs.Math.Bool.{true}
-use Rattle.std.proofs.lemmas.Bool.{lt-leb}
 use borrow.Rule.Slice.PartMut.{mid_of}
 use Rattle.store.specs.Spots.{spot}
-use Rattle.store.specs.Lists.{every, zeros, agree}
+use Rattle.store.specs.Lists.{every, agree}
 use Rattle.store.specs.ListLaws.{and_both, both-and, all-passed, agree→≡}
 use Rattle.store.specs.Model.{limits_of}
 use Rattle.store.specs.Layout.{limits_in, limit_sentences, good_limits, good_header, header}
@@ -20,16 +19,6 @@ use Rattle.header.specs.HeaderLaws.{within_high}
 use Rattle.store.specs.declared.Limits.{Limits}
 
 -- ## One table
-
-module _ (K : ℕ) (table : List ℕ) {count : ℕ} (read : count ≡ get_or table 0 0) where
-  -- It has more entries than there is room for.
-  pub crowded : 1 + K < count → false ≡ tidy_table K table
-  crowded h = rw (← read, lt-leb _ _ h)
-
-  -- Else what is unused decides.
-  pub roomy : {r : Bool} {from : ℕ} → count ≤ 1 + K → from ≡ 1 + 3 * (count - 1)
-      → r ≡ zeros (drop from table) → r ≡ tidy_table K table
-  roomy h at e = rw (← read, le-leb count (1 + K) h, ← at) e
 
 -- The table at a place, as code lends it.
 pub row_tidy : (o w n : ℕ) (ws : List ℕ) (K : ℕ) {k : ℕ} {row : List ℕ} → k < n
@@ -76,9 +65,6 @@ module _ (ws : List ℕ) where
         let p = and_both (agree (take 8 ws) (header (limits_in ws))) agrees in
         (agree→≡ _ _ p.0, eqb-true _ _ p.1)
 
-    pub header_there : 8 ≤ length ws
-    header_there = let long = facts.1 in omega arith
-
     -- The sixth word says where the tables lie: within the image.
     tables_word : get_or ws 5 0 ≡ tables_offset (limits_in ws)
     tables_word = sym (get_or-take 8 ws 5 0 (omega arith)) ∙ ap (λ (r : List ℕ). get_or r 5 0) facts.0
@@ -100,6 +86,3 @@ module _ (ws : List ℕ) where
         pub tables_tidy : {r : Bool} → r ≡ every (tidy_table l.K) (rows w l.T (drop o ws))
             → r ≡ tidy_tables ws
         tables_tidy e = e ∙ rw (start, tables_word, wide, read)
-
-    pub few-keys : {l : Limits} → l ≡ limits_in ws → l.K ≤ 2048
-    few-keys read = rw read (bounded (limits_in ws) limits).keys

@@ -1,17 +1,18 @@
 -- The users of each table, counted shape by shape, and what their numbers say.
 -- Assumes nothing.
-use Rattle.std.specs.Prelude.{◌≡◌, Bool, ◌&&◌, ◌||◌, not, List, ◌⊎◌, eqb, leb, replicate}
+use Rattle.std.specs.Prelude.{◌≡◌, Bool, ◌&&◌, ◌||◌, not, List, [], ◌∷◌, ◌⊎◌, suc, eqb, leb}
+use Rattle.std.specs.List.{list_all, range_with_len}
 use Rattle.std.proofs.Math.Path.{refl}
-use Rattle.std.proofs.Common.{sym, ap, ◌∙◌, inl, inr, add-zero, arith, eqb-true, eq-eqb, ne_eqb, get_or-set_same, get_or-set_other}
+use Rattle.std.proofs.Common.{sym, ap, ◌∙◌, inl, inr, ap₂, add-zero, add-one, arith, eqb-true, eq-eqb, ne_eqb, get_or-set_same, get_or-set_other}
 use Rattle.std.proofs.Math.Bool.{true, false}
 use Prim.Native.Nat.{ℕ, ◌+◌, ◌≤◌, ◌<◌}
 use Rattle.std.proofs.Math.ListN.{length, get_or, set, length-set}
-use Rattle.std.proofs.lemmas.List.{length-replicate, get_or-replicate}
 use Rattle.std.specs.Prelude.{if◌then◌else◌}
+use Rattle.store.specs.Lists.{numbered, every}
 use Rattle.store.specs.PlaceLaws.{same?}
-use Rattle.store.specs.Model.{Table, free, used, Model, no_shape, free_shape, free_table, shape_at, table_at}
+use Rattle.store.specs.Model.{Table, free, Model, no_shape, free_shape, shape_at, table_at}
 use Rattle.store.specs.Layout.{parse}
-use Rattle.store.specs.Scans.{Counting, count, count_next, counted-all, shape-next, table-next}
+use Rattle.store.specs.Scans.{Counting, count_next, shape-next, table-next}
 use Rattle.store.specs.Image.{Formed}
 use Rattle.store.specs.declared.Shape.{Shape}
 use Rattle.rules.specs.Shapes.{unique}
@@ -97,25 +98,10 @@ pub record CountingUsers (m : Model) (many done : ℕ) (counts : List ℕ) : Typ
   pub roomy : Roomy m counts
   pub each : (t : ℕ) → t < length counts → Counting (uses t) m.shapes done (get_or counts t 0)
 
-pub users-from : (m : Model) {n : ℕ} {counts : List ℕ} → length m.tables < n → counts ≡ replicate n 0
-    → CountingUsers m (length counts) 0 counts
-users-from m {n} {counts} room e =
-    let long : length counts ≡ n = ap length e ∙ length-replicate {A = ℕ} n 0 in
-    record {
-      long = refl;
-      roomy = omega arith;
-      each = λ t h. rw (e, get_or-replicate {A = ℕ} n t 0 0 (omega arith)) (count (uses t) m.shapes);
-    }
-
 -- All are counted.
 pub record Users (m : Model) (counts : List ℕ) : Type 0 where
   pub roomy : Roomy m counts
   pub each : (t : ℕ) → t < length counts → get_or counts t 0 ≡ users m t
-
-pub users-all : {m : Model} {many n done : ℕ} {counts : List ℕ} → CountingUsers m many done counts
-    → n ≡ length m.shapes → n ≤ done → Users m counts
-users-all c all l =
-    record { roomy = c.roomy; each = λ t h. counted-all (uses t) (c.each t h) (omega arith) }
 
 -- ## Shapes in range
 
@@ -156,11 +142,6 @@ module _ {ws : List ℕ} (f : Formed ws) (ranged : in_range (parse ws) ≡ true)
 
 -- ## Each table in use
 
-pub table-users : {m : Model} {counts : List ℕ} {t place : ℕ} {b : Bool} (x : Table) → Users m counts
-    → t < length counts → place ≡ t → b ≡ free_table x → (b || leb 1 (get_or counts place 0)) ≡ table_used m (t, x)
-table-users free u l e q = rw q
-table-users {t = t} (used es) u l e q = rw (q, e, u.each t l)
-
 pub table-at : (m : Model) (k : ℕ) {b : Bool} → b ≡ table_used m (k + 1, table_at m (k + 1))
     → b ≡ table_used m (k + 1, get_or m.tables k free)
 table-at m k e = e ∙ ap (λ (x : Table). table_used m (k + 1, x)) (table-next m k)
@@ -180,6 +161,29 @@ alone_at {m} {counts} k {s} u sited read e =
         → alone_in counts s ≡ (b || (not (unique s) || eqb (users m s.table) 1))
     go true f = rw (eqb-true s.state 0 f)
     go false f = rw (u.each s.table (sited f))
+
+-- ## Places in turn
+
+-- A test of each place is the test of each record with its place.
+pub every_numbered : {A : Type 0} (d : A) (test : ℕ × A → Bool) (xs : List A) {probe : ℕ → Bool} {n : ℕ}
+    → n ≡ length xs → ((k : ℕ) → k < n → probe k ≡ test (k + 1, get_or xs k d))
+    → list_all probe (range_with_len 0 n) ≡ every test (numbered 1 xs)
+every_numbered {A} d test xs {probe} e h =
+    rw e
+    (from 0 xs (λ k l. let zero_first : 0 + k ≡ k = omega arith in
+    let next : suc (0 + k) ≡ k + 1 = omega arith in
+    rw (next, zero_first) (h k (rw e l))))
+  where
+    from : (a : ℕ) (ys : List A) → ((k : ℕ) → k < length ys → probe (a + k) ≡ test (suc (a + k), get_or ys k d))
+        → list_all probe (range_with_len a (length ys)) ≡ every test (numbered (suc a) ys)
+    from a [] here = refl
+    from a (y ∷ ys) here =
+        let first = here 0 (omega arith) in
+        ap₂ ◌&&◌ (rw (add-zero a) at first)
+        (rw (add-one a)
+        (from (suc a) ys (λ k l.
+        let next : suc a + k ≡ a + suc k = omega arith in
+        rw next (here (suc k) (omega arith)))))
 
 -- ## Both
 

@@ -13,7 +13,6 @@ use rules::good_key;
 use slot::{KeyPosition, SlotAttributes, SlotIndex};
 use store::Entry;
 use store::image::{entry_count, get_entry, table_count};
-use store::rows::wide;
 
 // Whether an entry is good and its slot index the sum of the widths before it.
 fn entry_right(e: Entry, next: SlotIndex) -> bool
@@ -26,8 +25,7 @@ fn entry_width(e: Entry) -> u32
     requires { e.attributes ≤ most_stored }
     ensures { result ≡ width e.attributes }
 {
-    let attributes = SlotAttributes(e.attributes as u8);
-    attributes.width()
+    SlotAttributes(e.attributes as u8).width()
 }
 
 // A table's words are read once: its keys are written to `codes` for the test that they are distinct.
@@ -41,19 +39,14 @@ fn entries_right(image: &[u32], t: u32, codes: &mut [u64]) -> bool
         → take (length (entries_of (table_at (parse image.now) t))) codes.new
         ≡ keys_of (entries_of (table_at (parse image.now) t)) }
 {
-    let count = entry_count(image, t);
     let mut next = SlotIndex(0);
-    let mut position = KeyPosition(0);
-    while position.0 < count {
-        let e = get_entry(image, t, position);
+    for at in 0..entry_count(image, t) {
+        let e = get_entry(image, t, KeyPosition(at));
         if !entry_right(e, next) {
             return false;
         }
-        let place = wide(position.0);
-        codes[place] = e.key as u64;
+        codes[at as usize] = u64::from(e.key);
         next = next.after(entry_width(e));
-        let passed = position.0 + 1;
-        position = KeyPosition(passed);
     }
     true
 }
@@ -67,7 +60,7 @@ fn table_good(image: &[u32], t: u32, codes: &mut [u64], room: &mut [u32]) -> boo
     if !entries_right(image, t, codes) {
         return false;
     }
-    first_are_distinct(codes, wide(entry_count(image, t)), room)
+    first_are_distinct(codes, entry_count(image, t) as usize, room)
 }
 
 pub fn tables_good(image: &[u32], codes: &mut [u64], room: &mut [u32]) -> bool
@@ -75,13 +68,10 @@ pub fn tables_good(image: &[u32], codes: &mut [u64], room: &mut [u32]) -> bool
     requires roomy { Roomy (parse image.now) codes.old room.old }
     ensures { result ≡ tables_good (parse image.now) }
 {
-    let count = table_count(image);
-    let mut done = 0;
-    while done < count {
+    for done in 0..table_count(image) {
         if !table_good(image, done + 1, codes, room) {
             return false;
         }
-        done += 1;
     }
     true
 }

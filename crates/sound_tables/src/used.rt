@@ -10,7 +10,7 @@ ghost use Rattle.sound_tables.specs.Used.{table_used, every_table_used};
 ghost use Rattle.sound_tables.specs.Used.{alone_in, every_unique_alone};
 
 use store::image::{get_shape, shape_count, table_count, table_is_free};
-use store::rows::{clear, wide};
+use store::rows::clear;
 use store::{Shape, ShapeState};
 
 // Free shapes use no table.
@@ -21,7 +21,7 @@ fn count_user(users: &mut [u32], s: Shape)
     if s.state == ShapeState::FREE {
         return;
     }
-    let table = wide(s.table);
+    let table = s.table as usize;
     users[table] += 1;
 }
 
@@ -32,11 +32,8 @@ fn count_users(image: &[u32], users: &mut [u32])
     ensures { Users (parse image.now) users.new }
 {
     clear(users);
-    let count = shape_count(image);
-    let mut done = 0;
-    while done < count {
+    for done in 0..shape_count(image) {
         count_user(users, get_shape(image, done + 1));
-        done += 1;
     }
 }
 
@@ -46,7 +43,7 @@ fn table_used(image: &[u32], users: &[u32], t: u32) -> bool
     requires users { Users (parse image.now) users.now }
     ensures { result ≡ table_used (parse image.now) (t, table_at (parse image.now) t) }
 {
-    let place = wide(t);
+    let place = t as usize;
     table_is_free(image, t) | (users[place] >= 1)
 }
 
@@ -55,15 +52,7 @@ fn every_table_used(image: &[u32], users: &[u32]) -> bool
     requires users { Users (parse image.now) users.now }
     ensures { result ≡ every_table_used (parse image.now) }
 {
-    let count = table_count(image);
-    let mut done = 0;
-    while done < count {
-        if !table_used(image, users, done + 1) {
-            return false;
-        }
-        done += 1;
-    }
-    true
+    (0..table_count(image)).all(|done| table_used(image, users, done + 1))
 }
 
 fn unique_alone(users: &[u32], s: Shape) -> bool
@@ -73,7 +62,7 @@ fn unique_alone(users: &[u32], s: Shape) -> bool
     if s.state != ShapeState::UNIQUE {
         return true;
     }
-    let table = wide(s.table);
+    let table = s.table as usize;
     users[table] == 1
 }
 
@@ -83,15 +72,7 @@ fn every_unique_alone(image: &[u32], users: &[u32]) -> bool
     requires users { Users (parse image.now) users.now }
     ensures { result ≡ every_unique_alone (parse image.now) }
 {
-    let count = shape_count(image);
-    let mut done = 0;
-    while done < count {
-        if !unique_alone(users, get_shape(image, done + 1)) {
-            return false;
-        }
-        done += 1;
-    }
-    true
+    (0..shape_count(image)).all(|done| unique_alone(users, get_shape(image, done + 1)))
 }
 
 fn users_fit(image: &[u32], users: &mut [u32]) -> bool
@@ -114,6 +95,6 @@ pub fn tables_used(image: &[u32], room: &mut [u32]) -> bool
     requires image_in_bounds { length (parse image.now).tables < length room.old }
     ensures { result ≡ tables_used (parse image.now) }
 {
-    let end = wide(table_count(image)) + 1;
+    let end = table_count(image) as usize + 1;
     users_fit(image, &mut room[0..end])
 }

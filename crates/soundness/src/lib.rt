@@ -1,7 +1,7 @@
 // "Sound means all of this": the test that every public call makes first.
 #![tactic(auto)]
 
-ghost use Rattle.std.specs.Prelude.{◌≡◌, true};
+ghost use Rattle.std.specs.Prelude.{◌≡◌, true, ◌≤◌, ◌*◌};
 ghost use Rattle.store.specs.Layout.{parse};
 ghost use Rattle.store.specs.Image.{Formed};
 ghost use Rattle.rules.specs.Sound.{sound, sound_model};
@@ -13,7 +13,6 @@ use sound_shapes::{edges_differ, edges_good, free_are_zero, in_range, shapes_goo
 use sound_steps::children_follow;
 use sound_tables::{tables_good, tables_used, tidy_tables};
 use store::image::{edge_count, shape_count, table_count};
-use store::rows::wide;
 
 // The sentences that must hold before the others can be read: ranges, tables in use, what stands
 // in them.
@@ -38,7 +37,7 @@ fn links_are_sound(image: &[u32], codes: &mut [u64], room: &mut [u32]) -> bool
     requires image_value { fields_sound (parse image.now) ≡ true }
     ensures { result ≡ links_sound (parse image.now) }
 {
-    let end = wide(shape_count(image)) + 1;
+    let end = shape_count(image) as usize + 1;
     if !children_follow(image, &mut room[0..end]) {
         return false;
     }
@@ -67,32 +66,16 @@ fn is_within(image: &[u32], most: u32) -> bool
 }
 
 // The arrays of a larger form are cleared in longer than a small image is tested in.
-fn small_is_sound(image: &[u32]) -> bool
+fn sound_within<const CODES: usize, const ROOM: usize>(image: &[u32]) -> bool
     requires formed { Formed image.now }
-    requires within { Within 2048 (parse image.now) }
+    requires within { Within CODES (parse image.now) }
+    requires keys_fit { 2048 ≤ CODES }
+    requires codes_bound { CODES ≤ 65536 }
+    requires seats_fit { ROOM ≡ 4 * CODES }
     ensures { result ≡ sound_model (parse image.now) }
 {
-    let mut codes = [0u64; 2048];
-    let mut room = [0u32; 8192];
-    sound_in_room(image, &mut codes, &mut room)
-}
-
-fn middle_is_sound(image: &[u32]) -> bool
-    requires formed { Formed image.now }
-    requires within { Within 16384 (parse image.now) }
-    ensures { result ≡ sound_model (parse image.now) }
-{
-    let mut codes = [0u64; 16384];
-    let mut room = [0u32; 65536];
-    sound_in_room(image, &mut codes, &mut room)
-}
-
-fn large_is_sound(image: &[u32]) -> bool
-    requires { Formed image.now }
-    ensures { result ≡ sound_model (parse image.now) }
-{
-    let mut codes = [0u64; 65536];
-    let mut room = [0u32; 262144];
+    let mut codes = [0u64; CODES];
+    let mut room = [0u32; ROOM];
     sound_in_room(image, &mut codes, &mut room)
 }
 
@@ -101,12 +84,12 @@ fn model_is_sound(image: &[u32]) -> bool
     ensures { result ≡ sound_model (parse image.now) }
 {
     if is_within(image, 2048) {
-        return small_is_sound(image);
+        return sound_within::<2048, 8192>(image);
     }
     if is_within(image, 16384) {
-        return middle_is_sound(image);
+        return sound_within::<16384, 65536>(image);
     }
-    large_is_sound(image)
+    sound_within::<65536, 262144>(image)
 }
 
 pub fn is_sound(image: &[u32]) -> bool

@@ -3,14 +3,16 @@
 use mathlib.Core.List.{List, [], ◌∷◌, ◌++◌, append-nil}
 use Rattle.std.specs.Prelude.{◌≢◌, ◌≡◌, ℕ, ◌+◌, ◌*◌, ◌≤◌, ◌<◌, length, set}
 use Rattle.std.proofs.Math.Path.{refl, ap₂}
-use Rattle.std.proofs.Common.{sym, ◌∙◌, add-zero, add-one, arith, ne_eqb, length-set, length-append, length-take-le, take_all, take-suc, take-suc-set}
+use Rattle.std.proofs.Common.{sym, ◌∙◌, add-one, arith, ne_eqb, length-set, length-append, length-take-le, take_all, take-suc, take-suc-set}
 use Rattle.std.proofs.Math.ListN.{get_or, take}
 use Rattle.std.proofs.lemmas.List.{take-append-le}
 use Rattle.store.specs.Model.{Model}
 use Rattle.store.specs.Image.{Becomes, unchanged, and_then}
 use Rattle.rules.specs.Runner.{line_feed, bad_line}
 use Rattle.theorems.specs.Facts.{Sound}
-use Rattle.lines.specs.Writing.{reply_text, Written, written_then, length-kept}
+use Rattle.lines.specs.Writing.{reply_text, Written}
+use Rattle.lines.specs.declared.page.Page.{Page}
+use Rattle.lines.specs.Pages.{Adds, adds_nothing, adds_then, adds_within}
 use Rattle.stepping.specs.declared.blocks.BlockEnd.{BlockEnd}
 use Rattle.stepping.specs.Answering.{Ready, Answered, ready_again}
 use Rattle.stepping.specs.Input.{State, state, state_in, line_answer, byte_taken, byte_said, line-ends}
@@ -49,12 +51,28 @@ pub record Comes
   pub kept : Kept line end.begun s.begun
   pub written : Written out₀ out at text end.written
 
+-- The same on pages: the line's, and that of the answers, which a text of so many bytes at most follows.
+pub record EndsOn (image₀ image : List ℕ) (out₀ out : Page) (answer : Model × List ℕ) : Type 0 where
+  pub became : Becomes image₀ image answer.0
+  pub is_sound : Sound answer.0
+  pub added : Adds out₀ out (reply_text answer.1) 44
+
+pub record ComesOn
+    (image₀ image : List ℕ)
+    (line₀ line out₀ out : Page)
+    (s : State)
+    (text : List ℕ)
+    (most : ℕ)
+    : Type 0 where
+  pub became : Becomes image₀ image s.model
+  pub is_sound : Sound s.model
+  pub same_line : line.bytes.ghost_name ≡ line₀.bytes.ghost_name
+  pub kept : Kept line.bytes.now line.end s.begun
+  pub added : Adds out₀ out text most
+
 pub comes_ready : {image₀ image line out₀ out text : List ℕ} {at : ℕ} {s : State} {end : BlockEnd}
     → Comes image₀ image line out₀ out at s text end → Ready image
 comes_ready c = ready_again c.became c.is_sound
-
-nothing_written : (out : List ℕ) (at : ℕ) → Written out out at [] at
-nothing_written out at = record { stored = refl; ended = rw add-zero refl }
 
 -- ## One byte
 
@@ -83,55 +101,57 @@ module _ (line : List ℕ) (begun byte : ℕ) (long : length line ≡ 65) where
             (omega (arith, n, length-append (take begun line) (byte ∷ []))));
       }
 
-pub line-written : {image₀ image out₀ out numbers : List ℕ} {at end : ℕ} {answer : Model × List ℕ}
-    → Answered image₀ image answer numbers → Written out₀ out at (reply_text numbers) end
-    → Ends image₀ image out₀ out at answer end
+pub line-written : {image₀ image numbers : List ℕ} {out₀ out : Page} {answer : Model × List ℕ}
+    → Answered image₀ image answer numbers → Adds out₀ out (reply_text numbers) 44
+    → EndsOn image₀ image out₀ out answer
 line-written a w =
-    record { became = a.became; is_sound = a.is_sound; written = rw (sym a.its) w }
+    record { became = a.became; is_sound = a.is_sound; added = rw (sym a.its) w }
 
-module _ (image₀ line₀ out₀ : List ℕ) (begun : ℕ) where
+module _ (image₀ : List ℕ) (line₀ out₀ : Page) where
   abbrev s₀ : State
-  s₀ = state_in image₀ line₀ begun
+  s₀ = state_in image₀ line₀.bytes.now line₀.end
 
-  pub took_end : {image line out : List ℕ} {at byte end : ℕ} → length line ≡ 65 → byte ≡ line_feed
-      → Ends image₀ image out₀ out at (line_answer s₀) end
-      → Comes image₀ image line out₀ out at (byte_taken s₀ byte) (byte_said s₀ byte)
-      (record { begun = 0; written = end })
-  took_end {byte = byte} long feed e =
+  pub took_end : {image : List ℕ} {line out : Page} {byte : ℕ}
+      → line.bytes.ghost_name ≡ line₀.bytes.ghost_name → length line.bytes.now ≡ 65 → line.end ≡ 0
+      → byte ≡ line_feed → EndsOn image₀ image out₀ out (line_answer s₀)
+      → ComesOn image₀ image line₀ line out₀ out (byte_taken s₀ byte) (byte_said s₀ byte) 44
+  took_end {line = line} {byte = byte} same long none_kept feed e =
       let (took, spoke) = line-ends s₀ byte feed in
       rw (took, spoke)
       record {
         became = e.became;
         is_sound = e.is_sound;
-        kept = record { long = long; few = omega arith; these = refl };
-        written = e.written;
+        same_line = same;
+        kept = record { long = long; few = omega arith; these = rw none_kept };
+        added = e.added;
       }
 
-  pub took_byte : {line : List ℕ} {at byte now : ℕ} → Ready image₀ → byte ≢ line_feed
-      → Kept line now (take 65 (take begun line₀ ++ byte ∷ []))
-      → Comes image₀ image₀ line out₀ out₀ at (byte_taken s₀ byte) (byte_said s₀ byte)
-      (record { begun = now; written = at })
-  took_byte {at = at} {byte = byte} ready other k =
+  pub took_byte : {line : Page} {byte : ℕ} → Ready image₀
+      → line.bytes.ghost_name ≡ line₀.bytes.ghost_name → byte ≢ line_feed
+      → Kept line.bytes.now line.end (take 65 (take line₀.end line₀.bytes.now ++ byte ∷ []))
+      → ComesOn image₀ image₀ line₀ line out₀ out₀ (byte_taken s₀ byte) (byte_said s₀ byte) 44
+  took_byte {byte = byte} ready same other k =
       let (took, spoke) = line_goes_on s₀ byte other in
       rw (took, spoke)
       record {
         became = unchanged ready.formed;
         is_sound = ready.is_sound;
+        same_line = same;
         kept = k;
-        written = nothing_written out₀ at;
+        added = adds_nothing out₀ 44;
       }
 
   -- ## A block
 
   module _ (block : List ℕ) where
-    -- The first bytes of a block are taken.
-    pub record TakenTo (image line out : List ℕ) (end : BlockEnd) (i : ℕ) : Type 0 where
+    -- The first bytes of a block are taken, each with 44 bytes of answers at most.
+    pub record TakenTo (image : List ℕ) (line out : Page) (i : ℕ) : Type 0 where
       pub within : i ≤ length block
-      pub comes : Comes image₀ image line out₀ out 0 (taken s₀ (take i block)) (said s₀ (take i block)) end
-      pub room : end.written ≤ 44 * i
+      pub comes : ComesOn image₀ image line₀ line out₀ out (taken s₀ (take i block)) (said s₀ (take i block))
+          (44 * i)
 
-    pub none-taken : Ready image₀ → length line₀ ≡ 65 → begun ≤ 65
-        → TakenTo image₀ line₀ out₀ (record { begun = begun; written = 0 }) 0
+    pub none-taken : Ready image₀ → length line₀.bytes.now ≡ 65 → line₀.end ≤ 65
+        → TakenTo image₀ line₀ out₀ 0
     unfolding taken said
     none-taken ready long few =
         record {
@@ -139,41 +159,29 @@ module _ (image₀ line₀ out₀ : List ℕ) (begun : ℕ) where
           comes = record {
             became = unchanged ready.formed;
             is_sound = ready.is_sound;
+            same_line = refl;
             kept = record { long = long; few = few; these = refl };
-            written = nothing_written out₀ 0;
+            added = adds_nothing out₀ 0;
           };
-          room = omega arith;
         }
 
-    -- Each byte that is left has its room.
-    pub room-left : {image line out : List ℕ} {end : BlockEnd} {i : ℕ} → TakenTo image line out end i
-        → 44 * length block ≤ length out₀
-        → (end.written ≤ length out) × (i < length block → end.written + 44 ≤ length out)
-    room-left t all =
-        let same = length-kept t.comes.written in
-        let room = t.room in
-        let within = t.within in
-        (omega arith, λ l. omega arith)
-
-    pub all-taken : {image line out : List ℕ} {end : BlockEnd} (i : ℕ) → TakenTo image line out end i
-        → length block ≤ i → Comes image₀ image line out₀ out 0 (taken s₀ block) (said s₀ block) end
+    pub all-taken : {image : List ℕ} {line out : Page} (i : ℕ) → TakenTo image line out i
+        → length block ≤ i → ComesOn image₀ image line₀ line out₀ out (taken s₀ block) (said s₀ block) (44 * i)
     all-taken i t l = rw (take_all i block l) at t.comes
 
-    pub one_more : {image₁ line₁ out₁ image line out : List ℕ} {end₁ end : BlockEnd} (i : ℕ)
-        → TakenTo image₁ line₁ out₁ end₁ i → i < length block → let b = get_or block i 0 in
-        let s₁ = state_in image₁ line₁ end₁.begun in
-        Comes image₁ image line out₁ out end₁.written (byte_taken s₁ b) (byte_said s₁ b) end
-        → end.written ≤ end₁.written + 44 → TakenTo image line out end (i + 1)
+    pub one_more : {image₁ image : List ℕ} {line₁ line out₁ out : Page} (i : ℕ)
+        → TakenTo image₁ line₁ out₁ i → i < length block → let b = get_or block i 0 in
+        let s₁ = state_in image₁ line₁.bytes.now line₁.end in
+        ComesOn image₁ image line₁ line out₁ out (byte_taken s₁ b) (byte_said s₁ b) 44
+        → TakenTo image line out (i + 1)
     unfolding taken said
-    one_more {image₁} {line₁} {out₁} {image} {line} {out} {end₁} {end} i t l c few =
+    one_more {image₁} {image} {line₁} {line} {out₁} {out} i t l c =
         let b = get_or block i 0 in
         let s = taken s₀ (take i block) in
         let before = t.comes in
-        let room = t.room in
-        let same : state_in image₁ line₁ end₁.begun ≡ s =
+        let same : state_in image₁ line₁.bytes.now line₁.end ≡ s =
         ap₂ state before.became.parsed before.kept.these in
-        let now : Comes image₁ image line out₁ out end₁.written (byte_taken s b) (byte_said s b) end =
-        rw same at c in
+        let now : ComesOn image₁ image line₁ line out₁ out (byte_taken s b) (byte_said s b) 44 = rw same at c in
         let longer : take (i + 1) block ≡ take i block ++ b ∷ [] = rw (add-one i) (take-suc block i 0 l) in
         record {
           within = omega arith;
@@ -181,17 +189,18 @@ module _ (image₀ line₀ out₀ : List ℕ) (begun : ℕ) where
               record {
                 became = and_then before.became now.became;
                 is_sound = now.is_sound;
+                same_line = now.same_line ∙ before.same_line;
                 kept = now.kept;
-                written = written_then before.written (rw (append-nil (byte_said s b)) now.written);
+                added = rw append-nil
+                    (adds_within (44 * (i + 1)) (omega arith) (adds_then before.added now.added));
               };
-          room = omega arith;
         }
 
 -- ## The end of the input
 
 module _ (begun : ℕ) where
   pub ends_silent : (out : List ℕ) → begun ≡ 0 → Written out out 0 (last_said begun) 0
-  ends_silent out e = rw e (nothing_written out 0)
+  ends_silent out e = rw e (record { stored = refl; ended = refl })
 
   pub ends-told : {out₀ out numbers : List ℕ} {end : ℕ} → begun ≢ 0 → numbers ≡ bad_line
       → Written out₀ out 0 (reply_text numbers) end → Written out₀ out 0 (last_said begun) end

@@ -1,11 +1,15 @@
 // Input that comes in blocks: a line may begin in one block and end in a later one.
 ghost use Rattle.std.specs.Prelude.{◌≡◌, [], ◌∷◌, ◌++◌, ◌+◌, ◌*◌, ◌≤◌, length, take};
+ghost use Rattle.store.specs.Layout.{parse};
+ghost use Rattle.rules.specs.Runner.{line_call};
 ghost use Rattle.lines.specs.Writing.{Written};
-ghost use Rattle.stepping.specs.Answering.{Ready};
+ghost use Rattle.lines.specs.Pages.{room};
+ghost use Rattle.stepping.specs.Answering.{answer_to, Ready};
 ghost use Rattle.stepping.specs.Input.{state_in, line_answer, byte_taken, byte_said, taken, said, last_said};
-ghost use Rattle.stepping.specs.Taking.{Kept, Ends, Comes};
+ghost use Rattle.stepping.specs.Taking.{Kept, Ends, EndsOn, Comes, ComesOn};
 
 use crate::{answer_line, bad_line};
+use lines::page::Page;
 use lines::writing::write_reply;
 
 // How many bytes of a line that is not ended are kept, and how many bytes of answers are written.
@@ -16,16 +20,28 @@ pub struct BlockEnd {
 }
 
 // "at most 64 bytes": of a longer line 65 are kept, which already make it a BadLine.
-fn keep_byte(line: &mut [u8], begun: usize, byte: u8) -> usize
-    requires line_len { length line.old ≡ 65 }
-    requires begun_bound { begun ≤ 65 }
-    ensures { Kept line.new result (take 65 (take begun line.old ++ byte ∷ [])) }
+fn keep_byte(line: &mut Page<'_>, byte: u8)
+    requires line_len { length line.old.bytes.now ≡ 65 }
+    requires begun_bound { line.old.end ≤ 65 }
+    ensures same_reference { line.new.bytes.ghost_name ≡ line.old.bytes.ghost_name }
+    ensures kept { Kept line.new.bytes.now line.new.end
+        (take 65 (take line.old.end line.old.bytes.now ++ byte ∷ [])) }
 {
-    if begun == 65 {
-        return begun;
+    if line.end == 65 {
+        return;
     }
-    line[begun] = byte;
-    begun + 1
+    line.write_byte(byte);
+}
+
+// A line answered, after the answers that stand on the page.
+fn write_answer(image: &mut [u32], line: &[u8], answers: &mut Page<'_>)
+    requires ready { Ready image.old }
+    requires room { 44 ≤ room answers.old }
+    ensures { EndsOn image.old image.new answers.old answers.new
+        (answer_to (parse image.old) (line_call line.now)) }
+{
+    let n = answer_line(image, line);
+    answers.write_reply(n.refusal, n.first, n.second, n.third);
 }
 
 // The first bytes of `line` answered as a line, from `written` on.
@@ -43,36 +59,28 @@ pub fn answer_begun(
         (line_answer (state_in image.old line.now begun)) result }
     ensures upper_bound { result ≤ written + 44 }
 {
-    let n = answer_line(image, &line[..begun]);
-    write_reply(out, written, n.refusal, n.first, n.second, n.third)
+    let mut answers = Page {
+        bytes: out,
+        end: written,
+    };
+    write_answer(image, &line[..begun], &mut answers);
+    answers.end
 }
 
-fn take_byte(
-    image: &mut [u32],
-    line: &mut [u8],
-    end: BlockEnd,
-    byte: u8,
-    out: &mut [u8],
-) -> BlockEnd
+fn take_byte(image: &mut [u32], line: &mut Page<'_>, byte: u8, answers: &mut Page<'_>)
     requires ready { Ready image.old }
-    requires line_len { length line.old ≡ 65 }
-    requires begun_bound { end.begun ≤ 65 }
-    requires written_in_bounds { end.written + 44 ≤ length out.old }
-    ensures comes { Comes image.old image.new line.new out.old out.new
-        end.written
-        (byte_taken (state_in image.old line.old end.begun) byte)
-        (byte_said (state_in image.old line.old end.begun) byte) result }
-    ensures written_bound { result.written ≤ end.written + 44 }
+    requires line_len { length line.old.bytes.now ≡ 65 }
+    requires begun_bound { line.old.end ≤ 65 }
+    requires room { 44 ≤ room answers.old }
+    ensures { ComesOn image.old image.new line.old line.new answers.old answers.new
+        (byte_taken (state_in image.old line.old.bytes.now line.old.end) byte)
+        (byte_said (state_in image.old line.old.bytes.now line.old.end) byte) 44 }
 {
     if byte == b'\n' {
-        return BlockEnd {
-            begun: 0,
-            written: answer_begun(image, line, end.begun, out, end.written),
-        };
-    }
-    BlockEnd {
-        begun: keep_byte(line, end.begun, byte),
-        written: end.written,
+        write_answer(image, line.text(), answers);
+        line.end = 0;
+    } else {
+        keep_byte(line, byte);
     }
 }
 
@@ -94,13 +102,18 @@ pub fn answer_block(
         (said (state_in image.old line.old begun) block.now) result }
     ensures written_in_bounds { result.written ≤ length out.old }
 {
-    let mut end = BlockEnd { begun, written: 0 };
-    let mut i = 0;
-    while i < block.len() {
-        end = take_byte(image, line, end, block[i], out);
-        i += 1;
+    let mut kept = Page {
+        bytes: line,
+        end: begun,
+    };
+    let mut answers = Page { bytes: out, end: 0 };
+    for byte in block {
+        take_byte(image, &mut kept, *byte, &mut answers);
     }
-    end
+    BlockEnd {
+        begun: kept.end,
+        written: answers.end,
+    }
 }
 
 // "an unended last one too, is BadLine"

@@ -7,6 +7,7 @@ use Rattle.std.proofs.Math.Option.{Option, some}
 use Rattle.std.proofs.Math.Numerals.{add-one}
 use Rattle.std.proofs.Math.Seq.{drop-length}
 use Rattle.std.specs.Prelude.{if◌then◌else◌}
+use Rattle.std.specs.Int.{from_bool}
 use Rattle.store.specs.Model.{Model, free, no_shape, no_edge, shape_at, table_at, edge_at}
 use Rattle.store.specs.Lists.{numbered, lowest, keep, every, any, first}
 
@@ -169,6 +170,11 @@ module _ {A : Type 0} (test : A → Bool) where
         let all : done ≡ length xs = omega arith in
         let rest = rw (all, drop-length xs) at c.rest in
         omega arith
+
+-- What a test adds to a count.
+pub one_counted : (b : Bool) {one : ℕ} → one ≡ from_bool b → one ≡ (if b then 1 else 0)
+one_counted true e = e
+one_counted false e = e
 
 pub at_most_one : (b : Bool) {n : ℕ} → n ≡ (if b then 1 else 0) → n ≤ 1
 at_most_one true e = omega arith

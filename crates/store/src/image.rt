@@ -9,7 +9,7 @@ ghost use Rattle.store.specs.Image.{Formed, Place, Becomes};
 ghost use Rattle.store.specs.Tables.{Edited};
 
 use crate::records::{edit_table, read_edge, read_entry, read_shape, write_edge, write_shape};
-use crate::rows::{clear, count_unused, lowest_unused, row, row_at, wide};
+use crate::rows::{count_unused, lowest_unused, row, row_at};
 use crate::{Edge, Entry, Shape};
 use slot::KeyPosition;
 
@@ -55,21 +55,21 @@ fn tables(image: &[u32]) -> usize
     requires { Formed image.now }
     ensures { result ≡ tables_offset (limits_of (parse image.now)) }
 {
-    wide(image[5])
+    image[5] as usize
 }
 
 fn edges(image: &[u32]) -> usize
     requires { Formed image.now }
     ensures { result ≡ edges_offset (limits_of (parse image.now)) }
 {
-    wide(image[6])
+    image[6] as usize
 }
 
 fn table_width(image: &[u32]) -> usize
     requires { Formed image.now }
     ensures { result ≡ table_width (parse image.now).K }
 {
-    1 + 3 * wide(key_limit(image))
+    1 + 3 * key_limit(image) as usize
 }
 
 pub fn get_shape(image: &[u32], n: u32) -> Shape
@@ -214,7 +214,7 @@ pub fn free_table(image: &mut [u32], t: u32)
     let width = table_width(image);
     let at = row_at(image, tables(image), width, t);
     let end = at + width;
-    clear(&mut image[at..end]);
+    image[at..end].fill(0);
 }
 
 pub fn empty_table(image: &mut [u32], t: u32)

@@ -18,13 +18,14 @@ pub struct Limits {
 }
 
 // How many edges of each kind were added since the last prune.
-#[derive(Clone, Copy)]
+#[derive(Clone, Copy, Default)]
 pub struct Counters {
     pub property: u32,
     pub prototype: u32,
 }
 
-// A record's words are plain numbers. These three types have no values: they hold the names of such numbers.
+// A record's words are plain numbers, since a lent image may hold any: `parse` reads them as such.
+// These three types have no values: they hold the names of such numbers.
 
 // "state (1 shared, 2 unique)"; a free record is zero.
 #[derive(Clone, Copy)]
@@ -60,7 +61,7 @@ impl EdgeKind {
     pub const PROTOTYPE: u32 = 1;
 }
 
-#[derive(Clone, Copy)]
+#[derive(Clone, Copy, Default)]
 pub struct Shape {
     // a ShapeState
     pub state: u32,
@@ -76,14 +77,14 @@ pub struct Shape {
     pub counters: Counters,
 }
 
-#[derive(Clone, Copy)]
+#[derive(Clone, Copy, Default)]
 pub struct Entry {
     pub key: u32,
     pub attributes: u32,
     pub slot: SlotIndex,
 }
 
-#[derive(Clone, Copy)]
+#[derive(Clone, Copy, Default)]
 pub struct Edge {
     pub parent: u32,
     // an EdgeKind

@@ -1,7 +1,6 @@
 // Records of one width that follow each other in the lent image: where each lies.
 ghost use Rattle.std.specs.Prelude.{◌≡◌, [], ◌+◌, ◌*◌, ◌≤◌, ◌<◌, length, get_or, drop, replicate};
 ghost use borrow.Rule.Slice.PartMut.{mid_of};
-ghost use Rattle.std.specs.Prelude.{if◌then◌else◌};
 ghost use Rattle.store.specs.Lists.{lowest, keep};
 ghost use Rattle.store.specs.Layout.{rows};
 ghost use Rattle.store.specs.FreePlaces.{Area, unused};
@@ -18,7 +17,7 @@ pub fn row_at(image: &[u32], area: usize, width: usize, place: u32) -> usize
     requires { (1 ≤ place) × (spot area width place + width ≤ length image.now) }
     ensures { result ≡ spot area width place }
 {
-    area + width * (wide(place) - 1)
+    area + width * (place as usize - 1)
 }
 
 // A record's words, handed back as a part of the lent image.
@@ -41,26 +40,17 @@ fn is_unused(image: &[u32], area: usize, width: usize, count: u32, before: u32) 
     record[0] == 0
 }
 
-// The lowest place of an area whose record is free, 0 where none is.
+// The lowest place of an area whose record is free; 0 where none is, as `lowest` in Lists.antt says.
 pub fn lowest_unused(image: &[u32], area: usize, width: usize, count: u32) -> u32
     requires { Area image.now area width count }
     ensures { result ≡ lowest unused 1 (rows width count (drop area image.now)) }
 {
-    let mut done = 0;
-    while done < count {
+    for done in 0..count {
         if is_unused(image, area, width, count, done) {
             return done + 1;
         }
-        done += 1;
     }
     0
-}
-
-// A sum of these counts without a branch.
-pub fn one_if(test: bool) -> u32
-    ensures { result ≡ (if test then 1 else 0) }
-{
-    if test { 1 } else { 0 }
 }
 
 // How many records of an area are free.
@@ -69,20 +59,15 @@ pub fn count_unused(image: &[u32], area: usize, width: usize, count: u32) -> u32
     ensures { result ≡ length (keep unused (rows width count (drop area image.now))) }
 {
     let mut free = 0;
-    let mut done = 0;
-    while done < count {
-        free += one_if(is_unused(image, area, width, count, done));
-        done += 1;
+    for done in 0..count {
+        free += u32::from(is_unused(image, area, width, count, done));
     }
     free
 }
 
+// `fill` promises a clone of 0 at each place: here one equation says all.
 pub fn clear(words: &mut [u32])
     ensures { words.new ≡ replicate (length words.old) 0 }
 {
-    let mut i = 0;
-    while i < words.len() {
-        words[i] = 0;
-        i += 1;
-    }
+    words.fill(0);
 }

@@ -10,7 +10,7 @@ ghost use Rattle.theorems.specs.Facts.{Sound};
 
 use crate::passes::{sweep_edges, sweep_shapes, sweep_tables};
 use crate::walks::mark_reached;
-use rules::{FreedPlaces, SweepReply};
+use rules::{FreedPlaces, Refusal};
 use store::image::{free_shapes, free_tables};
 
 mod marks;
@@ -32,7 +32,7 @@ fn free_unreached(image: &mut [u32])
 }
 
 // "It answers how many shapes and tables it freed."
-pub fn sweep(image: &mut [u32]) -> SweepReply
+pub fn sweep(image: &mut [u32]) -> Result<FreedPlaces, Refusal>
     requires formed { Formed image.old }
     requires sound { Sound (parse image.old) }
     ensures { Answers image.old image.new
@@ -41,7 +41,7 @@ pub fn sweep(image: &mut [u32]) -> SweepReply
     let shapes = free_shapes(image);
     let tables = free_tables(image);
     free_unreached(image);
-    SweepReply::Frees(FreedPlaces {
+    Ok(FreedPlaces {
         shapes: free_shapes(image) - shapes,
         tables: free_tables(image) - tables,
     })

@@ -21,6 +21,7 @@ fn walk(image: &[u32], marks: &mut [u8], from: u32)
     ensures { Walk (parse image.now) marks.old marks.new from 0 }
 {
     let mut n = from;
+    // It goes from a shape to the one before it, and counts nothing.
     while n != 0 {
         if is_marked(marks, n) {
             return;
@@ -54,9 +55,7 @@ pub fn mark_reached(image: &[u32], marks: &mut [u8])
         → marked marks.new n ≡ any (eqb n) (reached (parse image.now)) }
 {
     let count = shape_count(image);
-    let mut done = 0;
-    while done < count {
+    for done in 0..count {
         walk_if_held(image, marks, done + 1);
-        done += 1;
     }
 }

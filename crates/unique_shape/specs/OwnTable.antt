@@ -25,8 +25,8 @@ pub record OwnTable (m : Model) (s : Shape) : Type 0 where
   pub differ : distinct (keys (table_of m s)) ≡ true
 
 module _ (m : Model) (sound : Sound m) (n : ℕ) (is_unique : unique (shape_at m n) ≡ true) where
-  pub shape-place : Place (length m.shapes) n
-  shape-place = used_place_inside m n (is_used_lem m sound n is_unique)
+  pub shape_place : Place (length m.shapes) n
+  shape_place = used_place_inside m n (is_used_lem m sound n is_unique)
 
   pub own_table : {s : Shape} → s ≡ shape_at m n → OwnTable m s
   own_table read =
@@ -54,3 +54,6 @@ one-more-fits {s = s} formed own most few =
     let count = own.count in
     let keys = formed.limited.keys in
     (omega arith, omega arith)
+
+-- What each change of a unique shape looks up first.
+pub ruleset unique_facts = (shape_place, is_used_lem)

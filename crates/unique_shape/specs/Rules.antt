@@ -1,30 +1,26 @@
 -- The rules for a unique shape, as code finds out which of their cases it is in.
 -- Assumes nothing.
-use Rattle.std.specs.Prelude.{Bool, true, false, List, ◌≢◌, ◌≡◌, refl, ℕ, ◌+◌}
+use Rattle.std.specs.Prelude.{Bool, true, false, List, ◌≡◌, refl, ℕ, None, Ok, Result, Some}
 use Rattle.std.proofs.Math.Path.{sym}
 use Rattle.std.proofs.Common.{◌∙◌}
-use borrow.Author.Tests.{eq-eqb, ne_eqb}
 use Rattle.slot.specs.Attributes.{same_width}
-use Rattle.store.specs.Model.{Model, used, shape_at, put_shape, put_table}
+use Rattle.store.specs.Model.{Model, used, shape_at, put_table}
 use Rattle.store.specs.Layout.{parse}
-use Rattle.store.specs.Image.{Formed, Becomes, unchanged, and_then}
+use Rattle.store.specs.Image.{Formed, Becomes, unchanged}
 use Rattle.store.specs.declared.Shape.{Shape}
 use Rattle.store.specs.declared.Entry.{Entry}
-use Rattle.rules.specs.declared.Refusal.TheVariants.{KeysFull}
-use Rattle.rules.specs.declared.Placement.{Placement}
-use Rattle.rules.specs.declared.Placement.TheVariants as placement
-use Rattle.rules.specs.Shapes.{attributes_in, appended, configured, entries, with_properties}
-use Rattle.rules.specs.Unique.{emptied, replaced, insert_unique, remove_unique, change_unique, prototype_unique}
+use Rattle.rules.specs.declared.Refusal.{Refusal}
+use Rattle.rules.specs.Shapes.{attributes_in, configured, entries}
+use Rattle.rules.specs.Unique.{emptied, replaced, remove_unique, change_unique}
 use Rattle.rules.specs.Placing.{Places}
 use Rattle.key_position.specs.Positions.{Stands}
 use Rattle.property_table.specs.Lookup.{looked_up, looked_held, looked_attributes, looked_absent}
 use Rattle.property_table.specs.Copies.{entries_in}
 use Rattle.property_table.specs.OneKey.{key_at}
 use Rattle.property_table.specs.declared.Property.{Property}
-use Rattle.property_table.specs.declared.OptionalProperty.TheVariants.{At, Nothing}
 use Rattle.unique_shape.specs.OwnTable.{OwnTable}
 use Rattle.unique_shape.specs.Replacing.{keys_copied}
-use Rattle.unique_shape.specs.declared.KeyCopy.TheVariants.{All, Without, Changed}
+use Rattle.unique_shape.specs.declared.KeyCopy.TheVariants.{Without, Changed}
 
 module _ (before : List ℕ) (n : ℕ) where
   abbrev m : Model
@@ -33,36 +29,19 @@ module _ (before : List ℕ) (n : ℕ) where
   abbrev es : List Entry
   es = entries (parse before) (shape_at (parse before) n)
 
-  -- ## Insert
-
-  module _ {s : Shape} {limit : ℕ} (read : s ≡ shape_at m n) (most : limit ≡ m.K) where
-    pub insert_refused : (k a : ℕ) → s.properties ≡ limit
-        → Places before before (insert_unique m n k a) (placement.Refused KeysFull)
-    unfolding insert_unique
-    insert_refused k a full = rw (← read, eq-eqb s.properties m.K (full ∙ most)) (refl, refl)
-
-    pub insert_made : (k a : ℕ) {now after : List ℕ} → s.properties ≢ limit
-        → Becomes before now (put_table m s.table (used (appended (entries_in before s.table) k a)))
-        → Becomes now after (put_shape (parse now) n (with_properties s (s.properties + 1)))
-        → Places before after (insert_unique m n k a) (placement.At n)
-    unfolding insert_unique
-    insert_made k a few table stands =
-        rw (← read, ne_eqb s.properties m.K (λ e. few (e ∙ sym most)))
-        (and_then table (rw table.parsed at stands), refl)
-
   -- ## Removal and change, by what a lookup has answered
 
   module _ (k : ℕ) where
-    pub remove_absent : Formed before → looked_up k es ≡ Nothing
-        → Places before before (remove_unique m n k) (placement.At n)
+    pub remove_absent : Formed before → looked_up k es ≡ None
+        → Places before before (remove_unique m n k) (Ok n)
     unfolding remove_unique
     remove_absent formed none = rw (looked_absent {k = k} {es = es} none).held (unchanged formed, refl)
 
-    module _ {p : Property} (found : looked_up k es ≡ At p) where
+    module _ {p : Property} (found : looked_up k es ≡ Some p) where
       pub its-entry : Stands k es p.position.0
       its-entry = looked_held found
 
-      pub remove_held : (after : List ℕ) (x : Placement) {s : Shape} → s ≡ shape_at m n
+      pub remove_held : (after : List ℕ) (x : Result ℕ Refusal) {s : Shape} → s ≡ shape_at m n
           → Places before after
           (replaced (emptied m n 0) s.prototype (keys_copied (Without p.position) es)) x
           → Places before after (remove_unique m n k) x
@@ -78,23 +57,15 @@ module _ (before : List ℕ) (n : ℕ) where
             (put_table m s.table
             (used (configured (entries_in before s.table)
             (key_at (entries_in before s.table) p.position.0) a)))
-            → Places before after (change_unique m n k a) (placement.At n)
+            → Places before after (change_unique m n k a) (Ok n)
         unfolding change_unique
         change_same read own e done =
             rw (width e) (rw (← own.whole, read, its-entry.key) at done, refl)
 
-        pub change-moved : (after : List ℕ) (x : Placement) {s : Shape} → s ≡ shape_at m n → same ≡ false
+        pub change-moved : (after : List ℕ) (x : Result ℕ Refusal) {s : Shape} → s ≡ shape_at m n → same ≡ false
             → Places before after
             (replaced (emptied m n 0) s.prototype
             (keys_copied (Changed (record { position = p.position; attributes = record { 0 = a } })) es)) x
             → Places before after (change_unique m n k a) x
         unfolding change_unique
         change-moved after x read e done = rw (width e) (rw (read, its-entry.key) at done)
-
-  -- ## Prototype
-
-  pub prototype_changed : (to : ℕ) (after : List ℕ) (x : Placement) {s : Shape} → s ≡ shape_at m n
-      → Places before after (replaced (emptied m n s.prototype) to (keys_copied All es)) x
-      → Places before after (prototype_unique m n to) x
-  unfolding prototype_unique
-  prototype_changed to after x read done = rw read at done

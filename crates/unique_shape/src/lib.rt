@@ -1,6 +1,6 @@
 // A unique shape has a table of its own. Inserts and changes that move no slot are made in it; for all else a
 // new shape takes its place.
-#![tactic(auto)]
+#![tactic(auto, using(crate::specs::OwnTable::unique_facts))]
 
 ghost use Rattle.std.specs.Prelude.{◌≡◌, true, ◌≤◌, length};
 ghost use Rattle.slot.specs.Attributes.{most_stored};
@@ -17,12 +17,12 @@ ghost use Rattle.theorems.specs.Facts.{Sound};
 ghost use Rattle.property_table.specs.Copies.{entries_in, Apart};
 ghost use Rattle.unique_shape.specs.Replacing.{keys_copied, CanCopy, InPlace};
 
-use fresh::{FreePlaces, FreeRoom, free_places, put_unique};
+use fresh::{FreePlaces, free_places, put_unique};
 use property_table::{
-    OptionalProperty, append, copy_changed, copy_entries, copy_without, find, find_held,
+    Property, append, copy_changed, copy_entries, copy_without, find, find_held,
     set_attributes_at_index,
 };
-use rules::{Placement, Refusal};
+use rules::Refusal;
 use slot::{KeyPosition, SlotAttributes};
 use store::image::{empty_table, entry_count, get_shape, key_limit, put_shape};
 
@@ -81,7 +81,13 @@ fn hand_over(image: &mut [u32], n: u32, kept: u32, new: FreePlaces, prototype: u
 
 // All that can be refused is asked before a word is written, and the keys are copied before the old table is
 // emptied. Its place is not free, before or after, so that the same free places are found.
-fn replace(image: &mut [u32], n: u32, kept: u32, prototype: u32, how: KeyCopy) -> Placement
+fn replace(
+    image: &mut [u32],
+    n: u32,
+    kept: u32,
+    prototype: u32,
+    how: KeyCopy,
+) -> Result<u32, Refusal>
     requires formed { Formed image.old }
     requires sound { Sound (parse image.old) }
     requires n_value { unique (shape_at (parse image.old) n) ≡ true }
@@ -90,24 +96,20 @@ fn replace(image: &mut [u32], n: u32, kept: u32, prototype: u32, how: KeyCopy) -
         (replaced (emptied (parse image.old) n kept) prototype
         (keys_copied how (entries (parse image.old) (shape_at (parse image.old) n)))) result }
 {
-    let room = free_places(image);
-    match room {
-        FreeRoom::Full(refusal) => Placement::Refused(refusal),
-        FreeRoom::At(new) => {
-            let old = get_shape(image, n);
-            copy_keys(image, old.table, new.table, how);
-            hand_over(image, n, kept, new, prototype);
-            Placement::At(new.shape)
-        }
-    }
+    let new = free_places(image)?;
+    let old = get_shape(image, n);
+    copy_keys(image, old.table, new.table, how);
+    hand_over(image, n, kept, new, prototype);
+    Ok(new.shape)
 }
 
+#[tactic(auto, using(crate::specs::OwnTable::unique_facts), unfolding(rules::specs::Unique::insert_unique))]
 pub fn insert_property_transition(
     image: &mut [u32],
     n: u32,
     key: u32,
     attributes: SlotAttributes,
-) -> Placement
+) -> Result<u32, Refusal>
     requires formed { Formed image.old }
     requires sound { Sound (parse image.old) }
     requires n_value { unique (shape_at (parse image.old) n) ≡ true }
@@ -116,15 +118,15 @@ pub fn insert_property_transition(
 {
     let mut s = get_shape(image, n);
     if s.properties == key_limit(image) {
-        return Placement::Refused(Refusal::KeysFull);
+        return Err(Refusal::KeysFull);
     }
     append(image, s.table, key, attributes);
     s.properties += 1;
     put_shape(image, n, s);
-    Placement::At(n)
+    Ok(n)
 }
 
-pub fn remove_property_transition(image: &mut [u32], n: u32, key: u32) -> Placement
+pub fn remove_property_transition(image: &mut [u32], n: u32, key: u32) -> Result<u32, Refusal>
     requires formed { Formed image.old }
     requires sound { Sound (parse image.old) }
     requires n_value { unique (shape_at (parse image.old) n) ≡ true }
@@ -132,14 +134,10 @@ pub fn remove_property_transition(image: &mut [u32], n: u32, key: u32) -> Placem
         (remove_unique (parse image.old) n key) result }
 {
     let s = get_shape(image, n);
-    let found = find(image, n, key);
-    match found {
-        OptionalProperty::Nothing => Placement::At(n),
-        OptionalProperty::At(property) => {
-            let position = property.position;
-            replace(image, n, 0, s.prototype, KeyCopy::Without(position))
-        }
-    }
+    let Some(Property { position, .. }) = find(image, n, key) else {
+        return Ok(n);
+    };
+    replace(image, n, 0, s.prototype, KeyCopy::Without(position))
 }
 
 pub fn change_attributes_transition(
@@ -147,7 +145,7 @@ pub fn change_attributes_transition(
     n: u32,
     key: u32,
     attributes: SlotAttributes,
-) -> Placement
+) -> Result<u32, Refusal>
     requires formed { Formed image.old }
     requires sound { Sound (parse image.old) }
     requires n_value { unique (shape_at (parse image.old) n) ≡ true }
@@ -157,12 +155,10 @@ pub fn change_attributes_transition(
         (change_unique (parse image.old) n key attributes.0) result }
 {
     let s = get_shape(image, n);
-    let property = find_held(image, n, key);
-    let position = property.position;
-    let slot = property.slot;
+    let Property { position, slot } = find_held(image, n, key);
     if slot.attributes.width_match(attributes) {
         set_attributes_at_index(image, s.table, position, attributes);
-        return Placement::At(n);
+        return Ok(n);
     }
     replace(
         image,
@@ -176,7 +172,8 @@ pub fn change_attributes_transition(
     )
 }
 
-pub fn change_prototype_transition(image: &mut [u32], n: u32, to: u32) -> Placement
+#[tactic(auto, using(crate::specs::OwnTable::unique_facts), unfolding(rules::specs::Unique::prototype_unique))]
+pub fn change_prototype_transition(image: &mut [u32], n: u32, to: u32) -> Result<u32, Refusal>
     requires formed { Formed image.old }
     requires sound { Sound (parse image.old) }
     requires n_value { unique (shape_at (parse image.old) n) ≡ true }

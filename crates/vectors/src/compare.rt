@@ -1,137 +1,107 @@
-// An answer against the oracle's numbers, in the order of vectors/README.md.
-ghost use Rattle.std.specs.Prelude.{◌≤◌, length};
-
-use crate::calls::Answer;
+// Answers and shapes against the oracle's numbers, in the order of vectors/README.md.
+use crate::image::Answer;
 use crate::numbers::MOST_NUMBERS;
-use replies::{ReplyNumbers, keys_numbers, lookup_numbers, question_numbers};
-use rules::NumberReply;
+use crate::run::Run;
+use replies::{done_numbers, shape_numbers};
+use rules::{ChangeTransitionAction, GivenShape, Refusal};
 
-// Before the entries: shared or unique, transition count, action, prototype, same as, number of entries.
-const BEFORE_ENTRIES: usize = 6;
+const BAD_LINE: u32 = 14;
 
-fn is_number(reply: NumberReply, number: u32) -> bool {
-    let numbers = question_numbers(reply);
-    numbers.refusal == 0 && numbers.first == number
+fn refusal_number(refusal: Refusal) -> u32 {
+    done_numbers(Err(refusal)).refusal
 }
 
-// "the lowest live handle before this one that is the very same shape, 0 if there is none"
-fn same_as(places: &[u32], before: u32, place: u32) -> u32 {
-    let mut handle = 1;
-    while handle < before && (handle as usize) < places.len() {
-        if places[handle as usize] == place {
-            return handle;
+fn is_number(reply: Result<u32, Refusal>, number: u32) -> bool {
+    reply.is_ok_and(|n| n == number)
+}
+
+impl Run {
+    // An entry is a key, its attributes and its slot index.
+    fn entry_agrees(&self, shape: u32, entry: &[u32; 3]) -> bool {
+        let [key, attributes, index] = *entry;
+        match shapes::lookup(self.image.as_slice(), shape, key) {
+            Ok(Some(slot)) => slot.index.0 == index && u32::from(slot.attributes.0) == attributes,
+            _ => false,
         }
-        handle += 1;
     }
-    0
-}
 
-fn entry_agrees(image: &[u32], place: u32, key: u32, attributes: u32, index: u32) -> bool {
-    let found = lookup_numbers(shapes::lookup(image, place, key));
-    found.first == 1 && found.second == index && found.third == attributes
-}
+    // "in table order", which is the order of the slot indexes.
+    fn entries_agree(&self, shape: u32, entries: &[u32]) -> bool {
+        let (entries, _) = entries.as_chunks::<3>();
+        entries.is_sorted_by(|before, after| before[2] < after[2])
+            && entries.iter().all(|entry| self.entry_agrees(shape, entry))
+    }
 
-// "in table order", which is the order of the slot indexes.
-fn entries_agree(image: &[u32], place: u32, entries: &[u32]) -> bool {
-    let mut lowest = 0;
-    let mut entry = 0;
-    while entry < entries.len() / 3 {
-        let at = 3 * entry;
-        let index = entries[at + 2];
-        if index < lowest {
+    fn keys_agree(&self, shape: u32, keys: &[u32]) -> bool {
+        let mut list = [0; MOST_NUMBERS];
+        let Ok(count) = shapes::keys(self.image.as_slice(), shape, &mut list) else {
             return false;
-        }
-        if !entry_agrees(image, place, entries[at], entries[at + 1], index) {
+        };
+        list.get(..count as usize)
+            .is_some_and(|listed| listed == keys)
+    }
+
+    // Shared or unique, transition count, action, prototype, same as, number of entries; the entries; the key list.
+    pub fn shape_agrees(&self, handle: u32, given: GivenShape, numbers: &[u32]) -> bool {
+        let [
+            shared,
+            transitions,
+            action,
+            prototype,
+            same_as,
+            count,
+            rest @ ..,
+        ] = numbers
+        else {
             return false;
-        }
-        lowest = index.wrapping_add(1);
-        entry += 1;
-    }
-    true
-}
-
-fn same_words(a: &[u32], b: &[u32]) -> bool {
-    if a.len() != b.len() {
-        return false;
-    }
-    let mut at = 0;
-    while at < a.len() {
-        if a[at] != b[at] {
+        };
+        let Some((entries, keys)) = rest.split_at_checked(3 * *count as usize) else {
             return false;
+        };
+        let image = self.image.as_slice();
+        let shape = given.shape;
+        let told = shape_numbers(Ok(given));
+        told.second == *action
+            && told.third == *transitions
+            && is_number(shapes::is_shared(image, shape), *shared)
+            && is_number(shapes::prototype(image, shape), *prototype)
+            && is_number(shapes::property_count(image, shape), *count)
+            && self.handles.same_as(handle, shape) == *same_as
+            && self.entries_agree(shape, entries)
+            && self.keys_agree(shape, keys)
+    }
+
+    // The handle that a shape makes is the next one.
+    pub fn answer_agrees(&self, numbers: &[u32]) -> bool {
+        match (self.answer, numbers) {
+            (Answer::Gives(Ok(given)), [0, shape @ ..]) => {
+                self.shape_agrees(self.handles.next(), given, shape)
+            }
+            (Answer::Frees(Ok(freed)), [0, shapes, tables]) => {
+                freed.shapes == *shapes && freed.tables == *tables
+            }
+            (Answer::Done(Ok(())), [0]) => true,
+            (
+                Answer::Gives(Err(refusal))
+                | Answer::Frees(Err(refusal))
+                | Answer::Done(Err(refusal)),
+                [number],
+            ) => refusal_number(refusal) == *number,
+            (Answer::BadLine, [number]) => BAD_LINE == *number,
+            _ => false,
         }
-        at += 1;
     }
-    true
-}
 
-fn keys_agree(image: &[u32], place: u32, keys: &[u32]) -> bool {
-    let mut list = [0u32; MOST_NUMBERS];
-    let reply = keys_numbers(shapes::keys(image, place, &mut list));
-    let count = reply.first as usize;
-    if reply.refusal != 0 {
-        return false;
-    }
-    if count > MOST_NUMBERS {
-        return false;
-    }
-    same_words(&list[0..count], keys)
-}
-
-fn fields_agree(image: &[u32], shape: ReplyNumbers, numbers: &[u32]) -> bool
-    requires { 6 ≤ length numbers.now }
-{
-    let place = shape.first;
-    if shape.third != numbers[1] || shape.second != numbers[2] {
-        return false;
-    }
-    is_number(shapes::is_shared(image, place), numbers[0])
-        && is_number(shapes::prototype(image, place), numbers[3])
-        && is_number(shapes::property_count(image, place), numbers[5])
-}
-
-// Where the key list begins.
-fn keys_start(entries: u32) -> usize
-    ensures { 6 ≤ result }
-{
-    BEFORE_ENTRIES + 3 * entries as usize
-}
-
-// The shape of a handle.
-pub fn shape_agrees(
-    image: &[u32],
-    places: &[u32],
-    handle: u32,
-    shape: ReplyNumbers,
-    numbers: &[u32],
-) -> bool {
-    if numbers.len() < BEFORE_ENTRIES {
-        return false;
-    }
-    let keys_at = keys_start(numbers[5]);
-    if keys_at > numbers.len() {
-        return false;
-    }
-    fields_agree(image, shape, numbers)
-        && same_as(places, handle, shape.first) == numbers[4]
-        && entries_agree(image, shape.first, &numbers[BEFORE_ENTRIES..keys_at])
-        && keys_agree(image, shape.first, &numbers[keys_at..])
-}
-
-// The handle that a shape makes is the next one.
-pub fn answer_agrees(
-    image: &[u32],
-    places: &[u32],
-    next: u32,
-    answer: Answer,
-    numbers: &[u32],
-) -> bool {
-    if numbers.len() == 0 {
-        return false;
-    }
-    match answer {
-        Answer::Alone(number) => same_words(&[number], numbers),
-        Answer::Frees(shapes, tables) => same_words(&[0, shapes, tables], numbers),
-        Answer::Gives(shape) => numbers[0] == 0
-            && shape_agrees(image, places, next, shape, &numbers[1..]),
+    pub fn live_agrees(&self, numbers: &[u32]) -> bool {
+        let [handle, numbers @ ..] = numbers else {
+            return false;
+        };
+        let shape = self.handles.shape(*handle);
+        let given = GivenShape {
+            shape,
+            action: ChangeTransitionAction::Nothing,
+            transitions: shapes::transition_count(self.image.as_slice(), shape).unwrap_or(0),
+        };
+        self.shape_agrees(*handle, given, numbers)
     }
 }

@@ -5,30 +5,14 @@ use Rattle.child_table.specs.Parents.{its-place, is_held, keys_differ, apart, co
 use Rattle.child_table.specs.Parents.{position_inside, changed}
 use Rattle.child_table.proofs.configure_table.Goals as goal
 
-pub position_of_held-position-requires-clause-formed : goal.position_of_held-position-requires-clause-formed
-position_of_held-position-requires-clause-formed c =
+pub position_of_held-position-requires : goal.position_of_held-position-requires
+position_of_held-position-requires c =
     let pre = c.requires in
-    pre.formed
-
-pub position_of_held-position-requires-clause-place : goal.position_of_held-position-requires-clause-place
-position_of_held-position-requires-clause-place c =
-    let pre = c.requires in
-    its-place pre.parent
-
-pub position_of_held-position-requires-clause-count_in_bounds : goal.position_of_held-position-requires-clause-count_in_bounds
-position_of_held-position-requires-clause-count_in_bounds c =
-    let pre = c.requires in
-    pre.parent.fits
-
-pub position_of_held-position-requires-clause-table_value : goal.position_of_held-position-requires-clause-table_value
-position_of_held-position-requires-clause-table_value c =
-    let pre = c.requires in
-    is_held pre.parent
-
-pub copy_changed-requires-clause-formed : goal.copy_changed-requires-clause-formed
-copy_changed-requires-clause-formed c =
-    let pre = c.requires in
-    pre.formed
+    rw c.of.ensures record {
+      formed = pre.formed;
+      there = record { place = its-place pre.parent; enough = pre.parent.fits };
+      held = is_held pre.parent;
+    }
 
 pub copy_changed-requires-clause-apart : goal.copy_changed-requires-clause-apart
 copy_changed-requires-clause-apart c =
@@ -51,7 +35,7 @@ copy_changed-requires-clause-position_in_bounds c =
     let pre = c.requires in
     let position-of-held = c.position_of_held-position in
     let parent = pre.parent in
-    let inside = position_inside parent position-of-held.ensures in
+    let inside = position_inside parent (rw c.of.ensures at position-of-held.ensures) in
     inside
 
 pub copy_changed-requires-clause-from_value : goal.copy_changed-requires-clause-from_value
@@ -77,5 +61,5 @@ returns c =
     let copy-changed = c.copy_changed in
     let parent = pre.parent in
     let copy = configure_copies parent pre.passes lowest-free-table.ensures in
-    let same = changed parent position-of-held.ensures in
+    let same = changed parent (rw c.of.ensures at position-of-held.ensures) in
     places copy.gave (rw same at copy-changed.ensures) refl

@@ -7,16 +7,8 @@ use Rattle.child_table.specs.Parents.{its-place, its_slots, apart, has_room, app
 use Rattle.child_table.specs.Parents.{insert_copies}
 use Rattle.child_table.proofs.insert_table.Goals as goal
 
-pub entry_count-requires-clause-formed : goal.entry_count-requires-clause-formed
-entry_count-requires-clause-formed c = c.requires.formed
-
 pub entry_count-requires-clause-place : goal.entry_count-requires-clause-place
 entry_count-requires-clause-place c = its-place c.requires.parent
-
-pub append-requires-clause-formed : goal.append-requires-clause-formed
-append-requires-clause-formed c =
-    let pre = c.requires in
-    pre.formed
 
 pub append-requires-clause-place : goal.append-requires-clause-place
 append-requires-clause-place c =
@@ -51,11 +43,6 @@ returns-then-s-entry_count c =
     let pre = c.requires in
     places (appends pre.parent (c.if-s-entry_count.true ∙ c.entry_count.ensures))
     c.append.ensures refl
-
-pub copy_entries-requires-clause-formed : goal.copy_entries-requires-clause-formed
-copy_entries-requires-clause-formed c =
-    let pre = c.requires in
-    pre.formed
 
 pub copy_entries-requires-clause-apart : goal.copy_entries-requires-clause-apart
 copy_entries-requires-clause-apart c =

@@ -8,13 +8,13 @@ pub write_graph-written-requires-clause-image_bound :
     goal.write_graph-written-requires-clause-image_bound
 write_graph-written-requires-clause-image_bound g c =
     let replayed = c.replay.ensures.stopped.1 in
-    (small_still replayed.became.sizes (small-blank c.requires.starts.blank)).keys
+    (small_still replayed.became.sizes (small-blank c.requires.blank)).keys
 
 pub write_graph-written-requires-clause-image_in_bounds :
     goal.write_graph-written-requires-clause-image_in_bounds
 write_graph-written-requires-clause-image_in_bounds g c =
     let replayed = c.replay.ensures.stopped.1 in
-    let small = small_still replayed.became.sizes (small-blank c.requires.starts.blank) in
+    let small = small_still replayed.became.sizes (small-blank c.requires.blank) in
     let shapes = small.shapes in
     let edges = small.edges in
     search rules

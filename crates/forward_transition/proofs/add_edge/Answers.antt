@@ -5,14 +5,8 @@ use Rattle.store.specs.Layout.{parse}
 use Rattle.forward_transition.specs.Transitions.{lowest-inside}
 use Rattle.forward_transition.proofs.add_edge.Goals as goal
 
-pub put_edge-requires-clause-formed : goal.put_edge-requires-clause-formed
-put_edge-requires-clause-formed c = c.requires.formed
-
 pub put_edge-requires-clause-place : goal.put_edge-requires-clause-place
 put_edge-requires-clause-place c =
     rw c.lowest_free_edge-place.ensures
     (lowest-inside free_edge no_edge (parse c.args.image.now).edges
     c.requires.bound)
-
-pub returns : goal.returns
-returns c = rw (← c.lowest_free_edge-place.ensures) c.put_edge.ensures

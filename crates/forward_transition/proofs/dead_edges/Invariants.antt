@@ -1,5 +1,4 @@
 -- `forward_transition::dead_edges` meets its contract. Assumes nothing.
-use Rattle.std.proofs.Common.{◌-◌, length}
 use Rattle.store.specs.Layout.{parse}
 use Rattle.store.specs.Scans.{Counting}
 use Rattle.rules.specs.Steps.{dead}
@@ -7,6 +6,3 @@ use Rattle.forward_transition.proofs.dead_edges.Given as goal
 
 abbrev pub invariant-loop-seen : goal.invariant-loop-seen
 invariant-loop-seen l = Counting (dead l.parent l.kind) (parse l.image).edges l.seen l.found
-
-abbrev pub decreases-loop-seen : goal.decreases-loop-seen
-decreases-loop-seen l = length (parse l.image).edges - l.seen

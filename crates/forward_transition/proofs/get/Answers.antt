@@ -1,14 +1,11 @@
 -- `forward_transition::get` meets its contract.
 -- Assumes nothing.
-use Rattle.std.proofs.Common.{ap, ◌∙◌, arith}
+use Rattle.std.proofs.Common.{ap, ◌∙◌}
 use Rattle.rules.specs.Steps.{alike}
-use Rattle.store.specs.Scans.{scan, stopped, went_on, ended, edge-next}
+use Rattle.store.specs.Scans.{stopped, went_on, edge-next}
 use mathlib.Core.Option.{some}
-use Rattle.forward_transition.specs.Transitions.{transition_of, found-dead, found_live}
+use Rattle.forward_transition.specs.Transitions.{found-dead, found_live}
 use Rattle.forward_transition.proofs.get.Goals as goal
-
-pub loop-passed-init : goal.loop-passed-init
-loop-passed-init c = scan _ 0 (omega arith)
 
 pub returns-then-e-eq0 : goal.returns-then-e-eq0
 returns-then-e-eq0 c =
@@ -45,8 +42,3 @@ loop-passed-preserved c =
     let agree = c.agree in
     went_on loop.invariant IsEdge-count.ensures loop-test.true
     (agree.ensures ∙ ap (alike c.args.wanted) (get-edge.ensures ∙ edge-next _ _)) c.if-agree.false
-
-pub returns : goal.returns
-returns c =
-    ap transition_of
-    (ended c.loop-passed.invariant c.edge_count-count.ensures c.loop-passed-test.false)

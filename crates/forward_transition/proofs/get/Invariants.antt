@@ -1,6 +1,5 @@
 -- `forward_transition::get` meets its contract.
 -- Assumes nothing.
-use Rattle.std.proofs.Common.{◌-◌, length}
 use Rattle.store.specs.Model.{no_edge}
 use Rattle.store.specs.Layout.{parse}
 use Rattle.rules.specs.Steps.{alike}
@@ -12,6 +11,3 @@ abbrev pub invariant-loop-passed : goal.invariant-loop-passed
 invariant-loop-passed l =
     Scanning (first_scan no_edge (alike l.wanted) (parse l.image).edges) l.passed
     (first (alike l.wanted) (parse l.image).edges)
-
-abbrev pub decreases-loop-passed : goal.decreases-loop-passed
-decreases-loop-passed l = length (parse l.image).edges - l.passed

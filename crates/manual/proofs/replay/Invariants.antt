@@ -1,12 +1,10 @@
 -- `manual::replay` meets its contract: the image stays sound, so that no line tests it. Assumes nothing.
-use mathlib.Core.Path.{◌≡◌}
-use Prim.Native.Nat.{◌-◌}
-use lib.ListN.{length}
+use Rattle.std.proofs.Common.{length}
 use Rattle.stepping.specs.Answering.{Ready}
 use Rattle.manual.proofs.replay.Given as goal
 
-abbrev pub invariant-loop-at : goal.invariant-loop-at
-invariant-loop-at g l = Ready l.image × (length l.image ≡ 6952) × (length l.out ≡ length l.initial.out)
+abbrev pub invariant-loop-rest : goal.invariant-loop-rest
+invariant-loop-rest g l = Ready l.image
 
-abbrev pub decreases-loop-at : goal.decreases-loop-at
-decreases-loop-at g l = length l.lessons - l.at
+abbrev pub decreases-loop-rest : goal.decreases-loop-rest
+decreases-loop-rest g l = length l.rest

@@ -7,11 +7,6 @@ use Rattle.theorems.specs.Facts.{used_place_inside}
 use Rattle.plan.specs.Budget.{at_limit}
 use Rattle.plan.proofs.at_limit.Goals as goal
 
-pub get_shape-shape-requires-clause-formed : goal.get_shape-shape-requires-clause-formed
-get_shape-shape-requires-clause-formed c =
-    let pre = c.requires in
-    pre.formed
-
 pub get_shape-shape-requires-clause-place : goal.get_shape-shape-requires-clause-place
 get_shape-shape-requires-clause-place c =
     let pre = c.requires in

@@ -1,51 +1,27 @@
 -- `property_table::count_kind` meets its contract. Assumes nothing.
-use mathlib.Core.Path.{◌≡◌, refl}
+use Prim.Native.Nat.{◌+◌}
 use native.Mathlib.Omega.{arith}
 use borrow.Author.Rules.{rules}
 use Rattle.property_table.specs.Copies.{entries_in, entries-few}
-use Rattle.property_table.specs.KeyLists.{listed_below, one_at_most, counted-more}
+use Rattle.property_table.specs.KeyLists.{listed_below, counted-more}
 use Rattle.property_table.proofs.count_kind.Goals as goal
-
-pub loop-position-init : goal.loop-position-init
-loop-position-init c = (omega arith, refl)
 
 pub overflow_add-n : goal.overflow_add-n
 overflow_add-n c =
-    let args = c.args in
-    let pre = c.requires in
-    let loop = c.loop-position in
-    let get-entry = c.get_entry-e in
-    let of_kind = c.of_kind-n in
-    let es = entries_in args.image.now args.table in
-    let sum = loop.invariant.1 in
-    let below = listed_below args.kind es loop.position.0 in
-    let few = entries-few pre.formed args.table in
-    let one = of_kind.ensures in
-    let most = one_at_most args.kind get-entry.result.key in
+    let es = entries_in c.args.image.now c.args.first.table in
+    let i = c.loop-position.position in
+    let inside = c.requires.there.enough in
+    let test = c.loop-position-test.true in
+    let sum = counted-more c.args.kind i es (omega arith) c.loop-position.invariant c.get_entry-e.ensures
+    c.from-n.ensures in
+    let below = listed_below c.args.kind es (i + 1) in
+    let few = entries-few c.requires.formed c.args.first.table in
     search rules
 
 pub loop-position-preserved : goal.loop-position-preserved
 loop-position-preserved c =
-    let args = c.args in
-    let pre = c.requires in
-    let loop = c.loop-position in
-    let if1 = c.loop-position-test in
-    let get-entry = c.get_entry-e in
-    let of_kind = c.of_kind-n in
-    let es = entries_in args.image.now args.table in
-    let inside = pre.count_in_bounds in
-    let test = if1.true in (
-      omega arith,
-      counted-more args.kind loop.position.0 es
-          (omega arith) loop.invariant.1 get-entry.ensures of_kind.ensures,
-    )
-
-pub returns : goal.returns
-returns c =
-    let args = c.args in
-    let loop = c.loop-position in
-    let if1 = c.loop-position-test in
-    let within = loop.invariant.0 in
-    let test = if1.false in
-    let all : args.count ≡ loop.position.0 = omega arith in
-    rw all loop.invariant.1
+    let es = entries_in c.args.image.now c.args.first.table in
+    let inside = c.requires.there.enough in
+    let test = c.loop-position-test.true in
+    counted-more c.args.kind c.loop-position.position es (omega arith) c.loop-position.invariant
+    c.get_entry-e.ensures c.from-n.ensures

@@ -1,24 +1,9 @@
 -- `property_table::write_key` meets its contract. Assumes nothing.
-use borrow.Author.Rules.{rules}
 use mathlib.Core.Path.{ap}
 use native.Mathlib.Omega.{arith}
 use lib.ListN.{length}
-use Rattle.property_table.specs.KeyLists.{of_kind, key_written, key_passed}
+use Rattle.property_table.specs.KeyLists.{of_kind, key_written}
 use Rattle.property_table.proofs.write_key.Goals as goal
-
-pub returns-then-key-kind : goal.returns-then-key-kind
-returns-then-key-kind c =
-    let args = c.args in
-    let if1 = c.if-key-kind in
-    let both = key_passed args.kind args.key args.out.now args.at if1.true in
-    record { value = both.0; out_after = both.1 }
-
-pub bounds-out-at : goal.bounds-out-at
-bounds-out-at c =
-    let args = c.args in
-    let if1 = c.if-key-kind in
-    let one = ap length (of_kind args.kind args.key if1.false) in
-    search rules
 
 pub returns : goal.returns
 returns c =

@@ -2,12 +2,6 @@
 use borrow.Author.Tests.{eq-eqb, ne_eqb}
 use Rattle.rollback.proofs.inserts.Goals as goal
 
-pub last_entry-e-requires-clause-formed : goal.last_entry-e-requires-clause-formed
-last_entry-e-requires-clause-formed c = c.requires.formed
-
-pub last_entry-e-requires-clause-tabled : goal.last_entry-e-requires-clause-tabled
-last_entry-e-requires-clause-tabled c = c.requires.tabled
-
 pub returns-then-s-eq-INSERT : goal.returns-then-s-eq-INSERT
 returns-then-s-eq-INSERT c = rw (eq-eqb _ _ c.if-s-eq-INSERT.true, c.last_entry-e.ensures)
 

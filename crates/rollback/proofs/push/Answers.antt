@@ -4,6 +4,5 @@ use Rattle.rollback.proofs.push.Goals as goal
 
 pub returns : goal.returns
 returns c =
-    let args = c.args in
     let pre = c.requires in
-    step_pushed args.steps.now args.t pre.le_start pre.start_in_bounds c.put_step.ensures
+    step_pushed c.args.steps.now c.args.step pre.le_start pre.start_in_bounds

@@ -5,16 +5,11 @@ use Rattle.rollback.proofs.push_newest.Goals as goal
 pub push-requires-clause-le_start : goal.push-requires-clause-le_start
 push-requires-clause-le_start c =
     let pre = c.requires in
-    rw c.in-At.is at pre.newest_len_bound
+    rw c.in-Some.is at pre.newest_len_bound
 
-pub push-requires-clause-start_in_bounds : goal.push-requires-clause-start_in_bounds
-push-requires-clause-start_in_bounds c =
-    let pre = c.requires in
-    pre.start_in_bounds
+pub returns-in-Some : goal.returns-in-Some
+returns-in-Some c =
+    rw c.in-Some.is c.push.ensures
 
-pub returns-in-At : goal.returns-in-At
-returns-in-At c =
-    rw c.in-At.is c.push.ensures
-
-pub returns-in-Nothing : goal.returns-in-Nothing
-returns-in-Nothing c = rw c.in-Nothing.is record { inside = c.requires.start_in_bounds; steps = refl }
+pub returns-in-None : goal.returns-in-None
+returns-in-None c = rw c.in-None.is record { inside = c.requires.start_in_bounds; steps = refl }

@@ -1,25 +1,12 @@
 -- `rollback::removal_steps` meets its contract. Assumes nothing.
+use mathlib.Core.Path.{◌∙◌}
 use native.Mathlib.Omega.{arith}
 use borrow.Author.Rules.{rules}
 use Rattle.store.specs.Layout.{parse}
-use Rattle.rollback.specs.StepsFrom.{rows_left}
+use Rattle.rules.specs.Placing.{steps_from}
+use Rattle.rollback.specs.StepsFrom.{places_left}
 use Rattle.rollback.specs.WalkBack.{remembered_few}
 use Rattle.rollback.proofs.removal_steps.Goals as goal
-
-pub rollback_before-back-requires-clause-formed : goal.rollback_before-back-requires-clause-formed
-rollback_before-back-requires-clause-formed c = c.requires.formed
-
-pub rollback_before-back-requires-clause-sound : goal.rollback_before-back-requires-clause-sound
-rollback_before-back-requires-clause-sound c = c.requires.sound
-
-pub rollback_before-back-requires-clause-shared_at : goal.rollback_before-back-requires-clause-shared_at
-rollback_before-back-requires-clause-shared_at c = c.requires.shared_at
-
-pub rollback_before-back-requires-clause-n_value : goal.rollback_before-back-requires-clause-n_value
-rollback_before-back-requires-clause-n_value c = c.requires.n_value
-
-pub rollback_before-back-requires-clause-in_bounds : goal.rollback_before-back-requires-clause-in_bounds
-rollback_before-back-requires-clause-in_bounds c = c.requires.in_bounds
 
 pub push_newest-start-requires-clause-newest_len_bound : goal.push_newest-start-requires-clause-newest_len_bound
 push_newest-start-requires-clause-newest_len_bound c =
@@ -28,19 +15,14 @@ push_newest-start-requires-clause-newest_len_bound c =
     let back = c.rollback_before-back.ensures in
     let few = remembered_few (parse args.image.now) pre.sound args.n args.key
     pre.shared_at pre.n_value in
-    rw back.newest_after (rows_left args.steps.now back.steps_from (search rules) pre.in_bounds (omega arith))
+    rw back.newest_after (places_left args.room.now back.steps_from (search rules) pre.in_bounds (omega arith))
 
 pub push_newest-start-requires-clause-start_in_bounds : goal.push_newest-start-requires-clause-start_in_bounds
-push_newest-start-requires-clause-start_in_bounds c =
-    let back = c.rollback_before-back.ensures in
-    back.steps_from.inside
+push_newest-start-requires-clause-start_in_bounds c = c.rollback_before-back.ensures.steps_from.inside
 
-pub returns-clause-base_value : goal.returns-clause-base_value
-returns-clause-base_value c =
+pub returns-clause-steps_value : goal.returns-clause-steps_value
+returns-clause-steps_value c =
     let back = c.rollback_before-back.ensures in
-    back.base_value
-
-pub returns-clause-steps_from : goal.returns-clause-steps_from
-returns-clause-steps_from c =
-    let back = c.rollback_before-back.ensures in
-    rw (back.newest_after, back.steps_from.steps) at c.push_newest-start.ensures
+    let pushed = c.push_newest-start in
+    let left = steps_from pushed.new.steps pushed.result in
+    left ∙ (rw (back.newest_after, back.steps_from.steps) at pushed.ensures).steps

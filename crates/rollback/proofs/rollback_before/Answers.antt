@@ -5,11 +5,6 @@ use Rattle.rollback.specs.WalkBack.{shared-place, walk_start, walk_tabled, walk-
 use Rattle.rollback.specs.WalkBack.{walk_previous, walk-less, walk-next, walk_done}
 use Rattle.rollback.proofs.rollback_before.Goals as goal
 
-pub get_shape-s-requires-clause-formed : goal.get_shape-s-requires-clause-formed
-get_shape-s-requires-clause-formed c =
-    let pre = c.requires in
-    pre.formed
-
 pub get_shape-s-requires-clause-place : goal.get_shape-s-requires-clause-place
 get_shape-s-requires-clause-place c =
     let pre = c.requires in
@@ -18,22 +13,12 @@ get_shape-s-requires-clause-place c =
 pub loop-newest-init : goal.loop-newest-init
 loop-newest-init c =
     let pre = c.requires in
-    walk_start pre.shared_at pre.n_value c.get_shape-s.ensures c.step_count-start.ensures
-
-pub inserts-requires-clause-formed : goal.inserts-requires-clause-formed
-inserts-requires-clause-formed c =
-    let pre = c.requires in
-    pre.formed
+    walk_start pre.shared_at pre.n_value c.get_shape-s.ensures refl
 
 pub inserts-requires-clause-tabled : goal.inserts-requires-clause-tabled
 inserts-requires-clause-tabled c =
     let pre = c.requires in
     walk_tabled pre.sound c.loop-newest.invariant
-
-pub yield_last-start-requires-clause-formed : goal.yield_last-start-requires-clause-formed
-yield_last-start-requires-clause-formed c =
-    let pre = c.requires in
-    pre.formed
 
 pub yield_last-start-requires-clause-tabled : goal.yield_last-start-requires-clause-tabled
 yield_last-start-requires-clause-tabled c =
@@ -52,11 +37,6 @@ pub yield_last-start-requires-clause-start_in_bounds : goal.yield_last-start-req
 yield_last-start-requires-clause-start_in_bounds c =
     let walked = c.loop-newest.invariant in
     walked.inside
-
-pub get_shape-s-requires-in-loop-newest-clause-formed : goal.get_shape-s-requires-in-loop-newest-clause-formed
-get_shape-s-requires-in-loop-newest-clause-formed c =
-    let pre = c.requires in
-    pre.formed
 
 pub get_shape-s-requires-in-loop-newest-clause-place : goal.get_shape-s-requires-in-loop-newest-clause-place
 get_shape-s-requires-in-loop-newest-clause-place c =

@@ -1,18 +1,19 @@
 -- `shape::unique` meets its contract. Assumes nothing.
-use Rattle.store.specs.Layout.{parse}
 use Rattle.rules.specs.declared.ChangeTransitionAction.TheVariants.{Nothing}
+use Rattle.store.specs.Layout.{parse}
 use Rattle.holds.specs.Granted.{result_place, rule-granted}
 use Rattle.shape.specs.Grantable.{unique_grantable}
 use Rattle.shape.specs.Refused.{unique_is}
 use Rattle.shape.proofs.unique.Goals as goal
 
-pub new_unique-placed-requires : goal.new_unique-placed-requires
-new_unique-placed-requires c = c.requires.formed
-
 pub grant_placed-requires : goal.grant_placed-requires
 grant_placed-requires c =
-    let both = result_place _ _ c.requires.formed _ _ c.new_unique-placed.ensures (unique_grantable _ c.requires.sound).in_use in
+    let may-grant = unique_grantable _ c.requires.sound in
+    let both = result_place _ _ c.requires.formed _ _ c.new_unique-placed.ensures may-grant.in_use in
     record { formed = both.0; in_place = both.1 }
 
 pub returns : goal.returns
-returns c = rw (unique_is (parse c.args.image.now)) (rule-granted _ _ c.requires.formed _ _ c.new_unique-placed.ensures Nothing _ _ (unique_grantable _ c.requires.sound).unwritten c.grant_placed.ensures)
+returns c =
+    rw (unique_is (parse c.args.image.now))
+    (rule-granted _ _ c.requires.formed _ _ c.new_unique-placed.ensures Nothing _ _
+    (unique_grantable _ c.requires.sound).unwritten c.grant_placed.ensures)

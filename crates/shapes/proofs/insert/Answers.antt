@@ -1,21 +1,8 @@
 -- `shapes::insert` meets its contract. Assumes nothing.
-use mathlib.Core.Path.{sym, ◌∙◌}
-use Rattle.shapes.specs.Called.{ready, answered, damaged}
+use Rattle.shapes.specs.Called.{ready_formed, ready_sound}
 use Rattle.shapes.proofs.insert.Goals as goal
-
-pub returns-then-not-is_sound : goal.returns-then-not-is_sound
-returns-then-not-is_sound c = damaged _ _ (sym c.is_sound.ensures ∙ c.if-not-is_sound.true)
 
 pub insert_property_transition-requires : goal.insert_property_transition-requires
 insert_property_transition-requires c =
-    let if1 = c.if-not-is_sound in
-    let is-sound = c.is_sound in
-    let both = ready _ (sym is-sound.ensures ∙ if1.false) in
-    record { formed = both.0; sound = both.1 }
-
-pub returns : goal.returns
-returns c =
-    let insert-property-transition = c.insert_property_transition in
-    let if1 = c.if-not-is_sound in
-    let is-sound = c.is_sound in
-    answered _ (sym is-sound.ensures ∙ if1.false) _ _ _ insert-property-transition.ensures
+    let sound = c.in_ok-tested.ensures.sound in
+    record { formed = ready_formed _ sound; sound = ready_sound _ sound }

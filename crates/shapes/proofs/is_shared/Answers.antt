@@ -1,16 +1,6 @@
 -- `shapes::is_shared` meets its contract. Assumes nothing.
-use mathlib.Core.Path.{sym, ◌∙◌}
-use Rattle.shapes.specs.Called.{ready, answered, damaged}
+use Rattle.shapes.specs.Called.{ready_formed}
 use Rattle.shapes.proofs.is_shared.Goals as goal
 
-pub returns-then-not-is_sound : goal.returns-then-not-is_sound
-returns-then-not-is_sound c = damaged _ _ (sym c.is_sound.ensures ∙ c.if-not-is_sound.true)
-
 pub is_shared-requires : goal.is_shared-requires
-is_shared-requires c = (ready _ (sym c.is_sound.ensures ∙ c.if-not-is_sound.false)).0
-
-pub returns : goal.returns
-returns c =
-    let if1 = c.if-not-is_sound in
-    let is-sound = c.is_sound in
-    answered _ (sym is-sound.ensures ∙ if1.false) _ _ _ c.is_shared.ensures
+is_shared-requires c = ready_formed _ c.in_ok-tested.ensures.sound

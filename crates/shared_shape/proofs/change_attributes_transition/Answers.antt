@@ -3,49 +3,12 @@ use mathlib.Core.Path.{sym, ◌∙◌}
 use Rattle.shared_shape.specs.Replays.{configure_legal, configure_is}
 use Rattle.shared_shape.proofs.change_attributes_transition.Goals as goal
 
-pub change_width-requires-clause-formed : goal.change_width-requires-clause-formed
-change_width-requires-clause-formed c =
-    let pre = c.requires in
-    pre.formed
-
-pub change_width-requires-clause-sound : goal.change_width-requires-clause-sound
-change_width-requires-clause-sound c =
-    let pre = c.requires in
-    pre.sound
-
-pub change_width-requires-clause-shared_at : goal.change_width-requires-clause-shared_at
-change_width-requires-clause-shared_at c =
-    let pre = c.requires in
-    pre.shared_at
-
-pub change_width-requires-clause-n_value : goal.change_width-requires-clause-n_value
-change_width-requires-clause-n_value c =
-    let pre = c.requires in
-    let rest = pre in
-    rest.n_value
-
-pub change_width-requires-clause-attributes_le_most_stored : goal.change_width-requires-clause-attributes_le_most_stored
-change_width-requires-clause-attributes_le_most_stored c =
-    let pre = c.requires in
-    let rest = pre in
-    rest.attributes_le_most_stored
-
 pub change_width-requires-clause-attributes_value : goal.change_width-requires-clause-attributes_value
 change_width-requires-clause-attributes_value c =
     let if1 = c.if-not-width_stays in
     let width-stays = c.width_stays in
     let other = sym width-stays.ensures ∙ if1.true in
     other
-
-pub one_step-requires-clause-formed : goal.one_step-requires-clause-formed
-one_step-requires-clause-formed c =
-    let pre = c.requires in
-    pre.formed
-
-pub one_step-requires-clause-sound : goal.one_step-requires-clause-sound
-one_step-requires-clause-sound c =
-    let pre = c.requires in
-    pre.sound
 
 pub one_step-requires-clause-legal : goal.one_step-requires-clause-legal
 one_step-requires-clause-legal c =

@@ -2,25 +2,10 @@
 use Rattle.shared_shape.specs.Transition.{its_used, its-place, limit_reached, below_the_limit}
 use Rattle.shared_shape.proofs.limited.Goals as goal
 
-pub get_shape-s-requires-clause-formed : goal.get_shape-s-requires-clause-formed
-get_shape-s-requires-clause-formed c =
-    let pre = c.requires in
-    pre.formed
-
 pub get_shape-s-requires-clause-place : goal.get_shape-s-requires-clause-place
 get_shape-s-requires-clause-place c =
     let pre = c.requires in
     its-place _ pre.sound _ pre.shared_at
-
-pub to_unique-requires-clause-formed : goal.to_unique-requires-clause-formed
-to_unique-requires-clause-formed c =
-    let pre = c.requires in
-    pre.formed
-
-pub to_unique-requires-clause-sound : goal.to_unique-requires-clause-sound
-to_unique-requires-clause-sound c =
-    let pre = c.requires in
-    pre.sound
 
 pub to_unique-requires-clause-used : goal.to_unique-requires-clause-used
 to_unique-requires-clause-used c =

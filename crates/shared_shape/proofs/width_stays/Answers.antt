@@ -5,25 +5,10 @@ use Rattle.shared_shape.specs.Transition.{its_used}
 use Rattle.shared_shape.specs.Replays.{width-told}
 use Rattle.shared_shape.proofs.width_stays.Goals as goal
 
-pub find_held-property-requires-clause-formed : goal.find_held-property-requires-clause-formed
-find_held-property-requires-clause-formed c =
-    let pre = c.requires in
-    pre.formed
-
-pub find_held-property-requires-clause-sound : goal.find_held-property-requires-clause-sound
-find_held-property-requires-clause-sound c =
-    let pre = c.requires in
-    pre.sound
-
 pub find_held-property-requires-clause-used : goal.find_held-property-requires-clause-used
 find_held-property-requires-clause-used c =
     let pre = c.requires in
     its_used _ pre.sound _ pre.shared_at
-
-pub find_held-property-requires-clause-n_value : goal.find_held-property-requires-clause-n_value
-find_held-property-requires-clause-n_value c =
-    let pre = c.requires in
-    pre.n_value
 
 pub returns : goal.returns
 returns c =

@@ -1,25 +1,23 @@
 -- `sound_shapes::edges_good` meets its contract. Assumes nothing.
-use Rattle.sound_shapes.specs.Sentences.{edges_good_lem}
+use Rattle.std.proofs.Common.{rules, tests, ◌+◌, arith, ◌∙◌, ap}
+use Rattle.std.proofs.lemmas.Iterator.{serves_from_Range, YieldsList-from_range}
+use Rattle.std.proofs.lemmas.Iterator.Search.{all_from_yields_List}
+use Rattle.store.specs.Model.{no_edge, edge_at}
 use Rattle.store.specs.Layout.{parse}
+use Rattle.store.specs.Scans.{edge-next}
+use Rattle.sound_shapes.specs.Tests.{good_edge}
+use Rattle.sound_shapes.specs.Sentences.{every_place, edges_good_lem}
 use Rattle.sound_shapes.proofs.edges_good.Goals as goal
 
-pub every_record_passes-requires-clause-formed : goal.every_record_passes-requires-clause-formed
-every_record_passes-requires-clause-formed c =
-    let pre = c.requires in
-    pre.formed
-
-pub every_record_passes-requires-clause-granted : goal.every_record_passes-requires-clause-granted
-every_record_passes-requires-clause-granted c =
-    let pre = c.requires in
-    pre.steps_known
-
-pub every_record_passes-requires-clause-count_value : goal.every_record_passes-requires-clause-count_value
-every_record_passes-requires-clause-count_value c =
-    let IsEdge-count = c.edge_count in
-    IsEdge-count.ensures
+pub all-requires-clause-callable : goal.all-requires-clause-callable
+all-requires-clause-callable c = serves_from_Range (λ x q k. search (rules, tests)) (λ x low high. search rules)
 
 pub returns : goal.returns
 returns c =
-    let args = c.args in
-    let every-record-passes = c.every_record_passes in
-    rw (edges_good_lem (parse args.image.now), every-record-passes.ensures)
+    let m = parse c.args.image.now in
+    let edges =
+    all_from_yields_List (λ k. good_edge m (edge_at m (k + 1))) _ _ c.all.result c.all.ensures.ran
+    (YieldsList-from_range 0 c.edge_count.result c.edge_count.result (search rules) (omega arith))
+    (λ x b q k. search (rules, tests))
+    ∙ every_place no_edge (good_edge m) m.edges c.edge_count.ensures (λ k. ap (good_edge m) (edge-next m k)) in
+    rw (edges_good_lem m) edges

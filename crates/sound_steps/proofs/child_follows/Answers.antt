@@ -5,22 +5,9 @@ use Prim.Native.Nat.{◌+◌}
 use lib.Dec.{eqb}
 use Rattle.store.specs.ListLaws.{and_both}
 use Rattle.rules.specs.Shapes.{shared}
-use Rattle.sound_steps.specs.Links.{the_one}
-use Rattle.sound_steps.specs.Children.{shared_tabled, no_child, previous_place, no_edge_lem, not-joined}
+use Rattle.sound_steps.specs.Children.{shared_tabled, previous_place, not-joined}
 use Rattle.sound_steps.specs.Children.{joined}
 use Rattle.sound_steps.proofs.child_follows.Goals as goal
-
-pub returns-then-not-is_child : goal.returns-then-not-is_child
-returns-then-not-is_child c =
-    let get-shape = c.get_shape-s in
-    let is-child = c.is_child in
-    let if1 = c.if-not-is_child in
-    no_child _ _ get-shape.ensures (sym is-child.ensures ∙ if1.true)
-
-pub get_shape-p-requires-clause-formed : goal.get_shape-p-requires-clause-formed
-get_shape-p-requires-clause-formed c =
-    let pre = c.requires in
-    pre.formed
 
 pub get_shape-p-requires-clause-place : goal.get_shape-p-requires-clause-place
 get_shape-p-requires-clause-place c =
@@ -30,31 +17,6 @@ get_shape-p-requires-clause-place c =
     let if1 = c.if-not-is_child in
     let child = sym is-child.ensures ∙ if1.false in
     previous_place _ _ get-shape.ensures child pre.tables_known.ranges
-
-pub returns-then-names_no_edge : goal.returns-then-names_no_edge
-returns-then-names_no_edge c =
-    let pre = c.requires in
-    let get-shape = c.get_shape-s in
-    let is-child = c.is_child in
-    let if1 = c.if-not-is_child in
-    let get-shape2 = c.get_shape-p in
-    let names-no-edge = c.names_no_edge in
-    let if2 = c.if-names_no_edge in
-    let child = sym is-child.ensures ∙ if1.false in
-    no_edge_lem _ _ get-shape.ensures child get-shape2.ensures pre.marked pre.formed.limited.edges
-    (sym names-no-edge.ensures ∙ if2.true)
-
-pub get_edge-edge-requires-clause-formed : goal.get_edge-edge-requires-clause-formed
-get_edge-edge-requires-clause-formed c =
-    let pre = c.requires in
-    pre.formed
-
-pub get_edge-edge-requires-clause-place : goal.get_edge-edge-requires-clause-place
-get_edge-edge-requires-clause-place c =
-    let pre = c.requires in
-    let names-no-edge = c.names_no_edge in
-    let if2 = c.if-names_no_edge in
-    (the_one pre.marked (sym names-no-edge.ensures ∙ if2.false)).0
 
 pub returns-then-not-is_joined : goal.returns-then-not-is_joined
 returns-then-not-is_joined c =
@@ -72,16 +34,6 @@ returns-then-not-is_joined c =
     not-joined _ _ get-shape.ensures child get-shape2.ensures pre.marked
     (sym names-no-edge.ensures ∙ if2.false) get-edge.ensures
     (sym is-joined.ensures ∙ if3.true)
-
-pub leads-requires-clause-formed : goal.leads-requires-clause-formed
-leads-requires-clause-formed c =
-    let pre = c.requires in
-    pre.formed
-
-pub leads-requires-clause-image_value : goal.leads-requires-clause-image_value
-leads-requires-clause-image_value c =
-    let pre = c.requires in
-    pre.tables_known.good
 
 pub leads-requires-clause-tabled : goal.leads-requires-clause-tabled
 leads-requires-clause-tabled c =

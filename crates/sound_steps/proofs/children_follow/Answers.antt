@@ -5,59 +5,29 @@ use native.Mathlib.Omega.{arith}
 use lib.ListN.{length}
 use Rattle.store.specs.Layout.{parse}
 use Rattle.store.specs.Image.{Place}
-use Rattle.store.specs.Scans.{scan, stopped, went_on, ended}
+use Rattle.store.specs.Scans.{stopped, went_on, ended}
 use Rattle.sound_steps.specs.Children.{each-follows, follow-tested}
 use Rattle.std.proofs.Common.{ap}
 use Rattle.std.proofs.Common.{not}
 use Rattle.sound_steps.proofs.children_follow.Goals as goal
 
-pub loop-done-init : goal.loop-done-init
-loop-done-init c = scan _ 0 (omega arith)
-
-pub bounds-marks-at : goal.bounds-marks-at
-bounds-marks-at c =
-    let edges-by-child = c.edges_by_child in
-    let shape-count = c.shape_count-count in
-    let wide = c.wide-at in
-    omega (arith, edges-by-child.ensures.room, shape-count.ensures, wide.ensures)
-
-pub child_follows-requires-clause-formed : goal.child_follows-requires-clause-formed
-child_follows-requires-clause-formed c =
-    let pre = c.requires in
-    pre.formed
-
-pub child_follows-requires-clause-tables_known : goal.child_follows-requires-clause-tables_known
-child_follows-requires-clause-tables_known c =
-    let pre = c.requires in
-    pre.tables_known
-
-pub child_follows-requires-clause-place : goal.child_follows-requires-clause-place
-child_follows-requires-clause-place c =
-    let args = c.args in
-    let shape-count = c.shape_count-count in
-    let loop = c.loop-done in
-    let place : Place (length (parse args.image.now).shapes) (loop.done + 1)
-    = record { low = omega arith; high = omega (arith, shape-count.ensures) } in
-    place
-
 pub child_follows-requires-clause-marked : goal.child_follows-requires-clause-marked
 child_follows-requires-clause-marked c =
     let args = c.args in
     let edges-by-child = c.edges_by_child in
-    let shape-count = c.shape_count-count in
+    let shape-count = c.shape_count-done-end in
     let loop = c.loop-done in
-    let wide = c.wide-at in
     let place : Place (length (parse args.image.now).shapes) (loop.done + 1)
     = record { low = omega arith; high = omega (arith, shape-count.ensures) } in
     let mark = edges-by-child.ensures.each (loop.done + 1) place in
-    rw wide.ensures mark
+    mark
 
 pub returns-then-not-child_follows : goal.returns-then-not-child_follows
 returns-then-not-child_follows c =
     let args = c.args in
     let loop = c.loop-done in
     let loop-test = c.loop-done-test in
-    let shape-count = c.shape_count-count in
+    let shape-count = c.shape_count-done-end in
     let child-follows = c.child_follows in
     let m = parse args.image.now in
     stopped loop.invariant shape-count.ensures loop-test.true
@@ -69,7 +39,7 @@ loop-done-preserved c =
     let args = c.args in
     let loop = c.loop-done in
     let loop-test = c.loop-done-test in
-    let shape-count = c.shape_count-count in
+    let shape-count = c.shape_count-done-end in
     let child-follows = c.child_follows in
     went_on loop.invariant shape-count.ensures loop-test.true
     (follow-tested (parse args.image.now) loop.done child-follows.ensures) (ap not c.if-not-child_follows.false)
@@ -77,5 +47,5 @@ loop-done-preserved c =
 pub returns : goal.returns
 returns c =
     let args = c.args in
-    ended c.loop-done.invariant c.shape_count-count.ensures c.loop-done-test.false
+    ended c.loop-done.invariant c.shape_count-done-end.ensures c.loop-done-test.false
     ∙ each-follows (parse args.image.now)

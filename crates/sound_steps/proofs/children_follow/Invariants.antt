@@ -1,5 +1,4 @@
 -- `sound_steps::children_follow` meets its contract. Assumes nothing.
-use Prim.Native.Nat.{◌-◌}
 use Rattle.store.specs.Model.{no_shape}
 use Rattle.store.specs.Layout.{parse}
 use Rattle.store.specs.Scans.{Scanning, places_scan}
@@ -10,6 +9,3 @@ abbrev pub invariant-loop-done : goal.invariant-loop-done
 invariant-loop-done l =
     let every-child = places_scan no_shape (follows (parse l.image)) (parse l.image).shapes in
     Scanning every-child l.done (every-child.from 0)
-
-abbrev pub decreases-loop-done : goal.decreases-loop-done
-decreases-loop-done l = l.count - l.done

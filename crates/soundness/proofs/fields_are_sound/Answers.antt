@@ -1,8 +1,5 @@
 -- `soundness::fields_are_sound` meets its contract. Assumes nothing.
-use native.Mathlib.Omega.{arith}
-use Rattle.sound_tables.specs.Good.{still_fits}
 use Rattle.soundness.specs.Parts.{test_failed, test_passed, fields_sound, all_three}
-use borrow.Author.Rules.{rules}
 use Rattle.std.proofs.Common.{ap}
 use Rattle.std.proofs.Common.{not}
 use Rattle.soundness.proofs.fields_are_sound.Goals as goal
@@ -10,16 +7,6 @@ use Rattle.soundness.proofs.fields_are_sound.Goals as goal
 pub returns-then-not-in_range : goal.returns-then-not-in_range
 unfolding fields_sound
 returns-then-not-in_range c = rw (test_failed c.in_range.result c.in_range.ensures (ap not c.if-not-in_range.true))
-
-pub shapes_good-requires-clause-formed : goal.shapes_good-requires-clause-formed
-shapes_good-requires-clause-formed c =
-    let pre = c.requires in
-    pre.formed
-
-pub shapes_good-requires-clause-image_value : goal.shapes_good-requires-clause-image_value
-shapes_good-requires-clause-image_value c =
-    let in_range_lem = c.in_range in
-    test_passed in_range_lem.result in_range_lem.ensures (ap not c.if-not-in_range.false)
 
 pub returns-then-not-shapes_good : goal.returns-then-not-shapes_good
 unfolding fields_sound
@@ -31,32 +18,6 @@ returns-then-not-shapes_good c =
       test_passed in_range_lem.result in_range_lem.ensures (ap not if1.false),
       test_failed shapes_good.result shapes_good.ensures (ap not c.if-not-shapes_good.true),
     )
-
-pub tables_good-requires-clause-formed : goal.tables_good-requires-clause-formed
-tables_good-requires-clause-formed c =
-    let pre = c.requires in
-    pre.formed
-
-pub tables_good-requires-clause-roomy : goal.tables_good-requires-clause-roomy
-tables_good-requires-clause-roomy c =
-    let pre = c.requires in
-    record { for_codes = pre.room.keys; for_seats = omega (arith, pre.room.keys, pre.room.seats) }
-
-pub tables_used-requires-clause-formed : goal.tables_used-requires-clause-formed
-tables_used-requires-clause-formed c =
-    let pre = c.requires in
-    pre.formed
-
-pub tables_used-requires-clause-image_value : goal.tables_used-requires-clause-image_value
-tables_used-requires-clause-image_value c =
-    let in_range_lem = c.in_range in
-    let if1 = c.if-not-in_range in
-    test_passed in_range_lem.result in_range_lem.ensures (ap not if1.false)
-
-pub tables_used-requires-clause-image_in_bounds : goal.tables_used-requires-clause-image_in_bounds
-tables_used-requires-clause-image_in_bounds c =
-    let pre = c.requires in
-    still_fits pre.room.tables (search rules)
 
 pub returns : goal.returns
 unfolding fields_sound

@@ -15,15 +15,6 @@ returns-then-not-good_header c =
     let if1 = c.if-not-good_header in
     header_fails args.image.now (test_failed good-header.result good-header.ensures (ap not if1.true))
 
-pub tidy_tables-requires : goal.tidy_tables-requires
-tidy_tables-requires c =
-    let args = c.args in
-    let good-header = c.good_header in
-    let if1 = c.if-not-good_header in
-    let both = and_both (good_limits (limits_in args.image.now))
-    (test_passed good-header.result good-header.ensures (ap not if1.false)) in
-    record { image_value = both.0; image_value_2 = both.1 }
-
 pub returns-then-not-tidy_tables : goal.returns-then-not-tidy_tables
 returns-then-not-tidy_tables c =
     let args = c.args in

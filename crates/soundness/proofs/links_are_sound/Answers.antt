@@ -1,48 +1,21 @@
 -- `soundness::links_are_sound` meets its contract. Assumes nothing.
-use native.Mathlib.Omega.{arith}
-use lib.ListN.{length, length-take}
 use Rattle.store.specs.Layout.{parse}
 use Rattle.rules.specs.Sound.{children_linked}
 use Rattle.store.specs.ListLaws.{and_both}
-use Rattle.sound_tables.specs.Good.{still_fits}
 use Rattle.soundness.specs.Parts.{test_failed, test_passed, link_parts, tables_known, free_known}
-use borrow.Author.Rules.{rules}
 use Rattle.std.proofs.Common.{ap}
 use Rattle.std.proofs.Common.{not}
 use Rattle.soundness.proofs.links_are_sound.Goals as goal
-
-pub slice_bounds-children_follow-end : goal.slice_bounds-children_follow-end
-slice_bounds-children_follow-end c =
-    let pre = c.requires in
-    let shape-count = c.shape_count in
-    omega (arith, pre.room.shapes, c.wide-end.ensures, shape-count.ensures)
-
-pub children_follow-requires-clause-formed : goal.children_follow-requires-clause-formed
-children_follow-requires-clause-formed c =
-    let pre = c.requires in
-    pre.formed
 
 pub children_follow-requires-clause-tables_known : goal.children_follow-requires-clause-tables_known
 children_follow-requires-clause-tables_known c =
     let pre = c.requires in
     tables_known _ pre.image_value
 
-pub children_follow-requires-clause-image_in_bounds : goal.children_follow-requires-clause-image_in_bounds
-children_follow-requires-clause-image_in_bounds c =
-    let pre = c.requires in
-    let shape-count = c.shape_count in
-    let wide = c.wide-end in
-    simp length-take (omega (arith, pre.room.shapes, wide.ensures, shape-count.ensures))
-
 pub returns-then-not-children_follow : goal.returns-then-not-children_follow
 returns-then-not-children_follow c =
     let children-follow = c.children_follow in
     rw (link_parts, test_failed children-follow.result children-follow.ensures (ap not c.if-not-children_follow.true))
-
-pub edges_good-requires-clause-formed : goal.edges_good-requires-clause-formed
-edges_good-requires-clause-formed c =
-    let pre = c.requires in
-    pre.formed
 
 pub edges_good-requires-clause-steps_known : goal.edges_good-requires-clause-steps_known
 edges_good-requires-clause-steps_known c =
@@ -64,11 +37,6 @@ returns-then-not-edges_good c =
       test_failed edges_good_lem.result edges_good_lem.ensures (ap not c.if-not-edges_good.true),
     )
 
-pub edges_differ-requires-clause-formed : goal.edges_differ-requires-clause-formed
-edges_differ-requires-clause-formed c =
-    let pre = c.requires in
-    pre.formed
-
 pub edges_differ-requires-clause-edges_known : goal.edges_differ-requires-clause-edges_known
 edges_differ-requires-clause-edges_known c =
     let pre = c.requires in
@@ -77,24 +45,6 @@ edges_differ-requires-clause-edges_known c =
     let good = test_passed edges_good_lem.result edges_good_lem.ensures (ap not if2.false) in
     let known = tables_known _ pre.image_value in
     record { ranges = known.ranges; zero = free_known _ pre.image_value; good = good }
-
-pub edges_differ-requires-clause-image_in_bounds : goal.edges_differ-requires-clause-image_in_bounds
-edges_differ-requires-clause-image_in_bounds c =
-    let pre = c.requires in
-    let edges = pre.room.edges in
-    edges
-
-pub edges_differ-requires-clause-image_in_bounds_2 : goal.edges_differ-requires-clause-image_in_bounds_2
-edges_differ-requires-clause-image_in_bounds_2 c =
-    let args = c.args in
-    let pre = c.requires in
-    let edges_good_lem = c.edges_good in
-    let if2 = c.if-not-edges_good in
-    let good = test_passed edges_good_lem.result edges_good_lem.ensures (ap not if2.false) in
-    let known = tables_known _ pre.image_value in
-    let edges = pre.room.edges in
-    let lent = length args.room.now in
-    still_fits {long = lent} (omega (arith, edges, pre.room.seats)) (search rules)
 
 pub returns : goal.returns
 returns c =

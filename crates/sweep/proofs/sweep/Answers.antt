@@ -2,19 +2,6 @@
 use Rattle.sweep.specs.Freed.{freed-shapes, freed-tables, sweep_answers}
 use Rattle.sweep.proofs.sweep.Goals as goal
 
-pub free_unreached-requires-clause-formed : goal.free_unreached-requires-clause-formed
-free_unreached-requires-clause-formed c =
-    let pre = c.requires in
-    pre.formed
-
-pub free_unreached-requires-clause-sound : goal.free_unreached-requires-clause-sound
-free_unreached-requires-clause-sound c =
-    let pre = c.requires in
-    pre.sound
-
-pub free_shapes-requires : goal.free_shapes-requires
-free_shapes-requires c = c.free_unreached.ensures.formed
-
 pub overflow_sub-result : goal.overflow_sub-result
 overflow_sub-result c =
     let pre = c.requires in
@@ -23,9 +10,6 @@ overflow_sub-result c =
     let free-shapes2 = c.free_shapes in
     (freed-shapes pre.sound free-unreached.ensures free-shapes.ensures free-shapes2.ensures).fits
 
-pub free_tables-requires : goal.free_tables-requires
-free_tables-requires c = c.free_unreached.ensures.formed
-
 pub overflow_sub-result-2 : goal.overflow_sub-result-2
 overflow_sub-result-2 c =
     let pre = c.requires in
@@ -33,9 +17,6 @@ overflow_sub-result-2 c =
     let free-tables = c.free_tables-tables in
     let free-tables2 = c.free_tables in
     (freed-tables pre.sound free-unreached.ensures free-tables.ensures free-tables2.ensures).fits
-
-pub shape_of-image : goal.shape_of-image
-shape_of-image c = c.free_unreached.ensures.long
 
 pub returns : goal.returns
 returns c =

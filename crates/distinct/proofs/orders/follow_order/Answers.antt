@@ -5,13 +5,8 @@ use Rattle.distinct.proofs.orders.follow_order.Goals as goal
 
 pub returns-then-risen_to-order : goal.returns-then-risen_to-order
 returns-then-risen_to-order c =
-    let pre = c.requires in
-    let count-risen = c.count_risen-risen_to in
-    let if1 = c.if-risen_to-order in
-    along-distinct _ _ pre (sym count-risen.ensures.value ∙ if1.true)
+    let risen = sym c.count_risen-risen_to.ensures.value ∙ c.if-risen_to-order.true in
+    sym (along-distinct _ _ c.requires risen)
 
 pub returns-then-are_equal : goal.returns-then-are_equal
-returns-then-are_equal c =
-    let are-equal = c.are_equal in
-    let if3 = c.if-are_equal in
-    equal_twice _ _ _ (sym are-equal.ensures ∙ if3.true)
+returns-then-are_equal c = sym (equal_twice _ _ _ (sym c.are_equal.ensures ∙ c.if-are_equal.true))

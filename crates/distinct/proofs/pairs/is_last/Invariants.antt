@@ -1,14 +1,13 @@
 -- `distinct::pairs::is_last` meets its contract. Assumes nothing.
 use mathlib.Core.Bool.{not}
-use Prim.Native.Nat.{◌-◌}
+use Prim.Native.Nat.{◌+◌}
 use lib.Dec.{eqb}
-use lib.ListN.{length, drop}
+use lib.ListN.{drop}
 use Rattle.store.specs.Lists.{any}
 use Rattle.store.specs.Scans.{Scanning, none_scan}
 use Rattle.distinct.proofs.pairs.is_last.Given as goal
 
 abbrev pub invariant-loop-done : goal.invariant-loop-done
-invariant-loop-done l = Scanning (none_scan 0 (eqb l.code) l.codes) l.done (not (any (eqb l.code) (drop l.initial.done l.codes)))
-
-abbrev pub decreases-loop-done : goal.decreases-loop-done
-decreases-loop-done l = length l.codes - l.done
+invariant-loop-done l =
+    Scanning (none_scan 0 (eqb l.code) l.codes) l.done
+    (not (any (eqb l.code) (drop (l.place + 1) l.codes)))

@@ -1,14 +1,10 @@
 -- `distinct::pairs::pairs_differ` meets its contract. Assumes nothing.
 use mathlib.Core.Path.{refl}
-use native.Mathlib.Omega.{arith}
-use Rattle.store.specs.Scans.{scan, stopped, went_on, ended}
+use Rattle.store.specs.Scans.{stopped, went_on}
 use Rattle.distinct.specs.Pairs.{last-tested}
 use Rattle.std.proofs.Common.{ap}
 use Rattle.std.proofs.Common.{not}
 use Rattle.distinct.proofs.pairs.pairs_differ.Goals as goal
-
-pub loop-done-init : goal.loop-done-init
-loop-done-init c = scan _ 0 (omega arith)
 
 pub returns-then-not-is_last : goal.returns-then-not-is_last
 returns-then-not-is_last c =
@@ -25,9 +21,3 @@ loop-done-preserved c =
     let is_last = c.is_last in
     let if1 = c.if-not-is_last in
     went_on loop.invariant refl loop-test.true (last-tested _ _ is_last.ensures) (ap not if1.false)
-
-pub returns : goal.returns
-returns c =
-    let loop = c.loop-done in
-    let loop-test = c.loop-done-test in
-    ended loop.invariant refl loop-test.false

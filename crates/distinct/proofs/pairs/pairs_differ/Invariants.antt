@@ -1,6 +1,4 @@
 -- `distinct::pairs::pairs_differ` meets its contract. Assumes nothing.
-use Prim.Native.Nat.{◌-◌}
-use lib.ListN.{length}
 use Rattle.store.specs.Scans.{Scanning}
 use Rattle.rules.specs.Sound.{distinct}
 use Rattle.distinct.specs.Pairs.{distinct_scan}
@@ -8,6 +6,3 @@ use Rattle.distinct.proofs.pairs.pairs_differ.Given as goal
 
 abbrev pub invariant-loop-done : goal.invariant-loop-done
 invariant-loop-done l = Scanning (distinct_scan l.codes) l.done (distinct l.codes)
-
-abbrev pub decreases-loop-done : goal.decreases-loop-done
-decreases-loop-done l = length l.codes - l.done

@@ -5,58 +5,32 @@ use Rattle.store.specs.Layout.{parse}
 use borrow.Author.Tests.{eq-eqb, ne_eqb}
 use Rattle.rules.specs.Shapes.{entries}
 use Rattle.rules.specs.InUse.{shared_used, label_attributes}
-use Rattle.drawing.specs.Parts.{puts_nothing, puts_then, puts_within}
+use Rattle.lines.specs.Pages.{adds_nothing, adds_then, adds_within}
 use Rattle.drawing.specs.Graph.{edge_text}
 use Rattle.drawing.proofs.edges.write_edge.Goals as goal
 
 pub returns-then-e-eq0 : goal.returns-then-e-eq0
 unfolding edge_text
-returns-then-e-eq0 c = rw (← c.get_edge-e.ensures, eq-eqb _ 0 c.if-e-eq0.true) (puts_nothing _ _ 121)
+returns-then-e-eq0 c = rw (← c.get_edge-e.ensures, eq-eqb _ 0 c.if-e-eq0.true) (adds_nothing _ 121)
 
-pub write_step-end-requires-clause-formed : goal.write_step-end-requires-clause-formed
-write_step-end-requires-clause-formed c = c.requires.formed
-
-pub write_step-end-requires-clause-sound : goal.write_step-end-requires-clause-sound
-write_step-end-requires-clause-sound c = c.requires.sound
-
-pub write_step-end-requires-clause-used : goal.write_step-end-requires-clause-used
-write_step-end-requires-clause-used c =
+pub write_step-requires-clause-used : goal.write_step-requires-clause-used
+write_step-requires-clause-used c =
     let m = parse c.args.image.now in
     let e = c.get_edge-e.ensures in
-    let edge = edge_at m c.args.n in
-    let parent = shape_at m edge.parent in
+    let parent = shape_at m (edge_at m c.args.n).parent in
     let its = c.requires.sound.edges c.args.n (rw (← e) (ne_eqb _ 0 c.if-e-eq0.false)) in
     rw e (shared_used parent its.parent_shared)
 
-pub write_step-end-requires-clause-attributes_le_most_stored : goal.write_step-end-requires-clause-attributes_le_most_stored
-write_step-end-requires-clause-attributes_le_most_stored c =
+pub write_step-requires-clause-attributes_le_most_stored : goal.write_step-requires-clause-attributes_le_most_stored
+write_step-requires-clause-attributes_le_most_stored c =
     let m = parse c.args.image.now in
     let e = c.get_edge-e.ensures in
     let edge = edge_at m c.args.n in
-    let parent = shape_at m edge.parent in
     let its = c.requires.sound.edges c.args.n (rw (← e) (ne_eqb _ 0 c.if-e-eq0.false)) in
-    rw e (label_attributes (entries m parent) edge its.label)
-
-pub write_step-end-requires-clause-at_in_bounds : goal.write_step-end-requires-clause-at_in_bounds
-write_step-end-requires-clause-at_in_bounds c =
-    let m = parse c.args.image.now in
-    let e = c.get_edge-e.ensures in
-    let edge = edge_at m c.args.n in
-    let parent = shape_at m edge.parent in
-    let its = c.requires.sound.edges c.args.n (rw (← e) (ne_eqb _ 0 c.if-e-eq0.false)) in
-    omega (
-      arith,
-      c.requires.at_in_bounds,
-      c.write_ends-end.ensures.few,
-      c.write_ends-end.ensures.long,
-    )
+    rw e (label_attributes (entries m (shape_at m edge.parent)) edge its.label)
 
 pub returns : goal.returns
 unfolding edge_text
 returns c =
-    let all = puts_then (puts_then c.write_ends-end.ensures c.write_step-end.ensures)
-    c.write_word.ensures in
-    rw (← c.get_edge-e.ensures, ne_eqb _ 0 c.if-e-eq0.false) (puts_within 121 (omega arith) all)
-
-pub shape_of-out : goal.shape_of-out
-shape_of-out c = (returns c).long
+    let all = adds_then (adds_then c.write_ends.ensures c.write_step.ensures) c.write_word.ensures in
+    rw (← c.get_edge-e.ensures, ne_eqb _ 0 c.if-e-eq0.false) (adds_within 121 (omega arith) all)

@@ -4,16 +4,13 @@ use native.Mathlib.Omega.{arith}
 use borrow.Author.Tests.{eq-eqb, ne_eqb}
 use Rattle.theorems.specs.Facts.{Used, keys_fit}
 use Rattle.property_table.specs.Readable.{readable}
-use Rattle.drawing.specs.Parts.{puts_nothing}
+use Rattle.lines.specs.Pages.{adds_nothing}
 use Rattle.drawing.specs.Graph.{node_text}
 use Rattle.drawing.proofs.nodes.write_node.Goals as goal
 
 pub returns-then-s-eq-FREE : goal.returns-then-s-eq-FREE
 unfolding node_text
-returns-then-s-eq-FREE c = rw (← c.get_shape-s.ensures, eq-eqb _ 0 c.if-s-eq-FREE.true) (puts_nothing _ _ 5200)
-
-pub write_shape-requires-clause-formed : goal.write_shape-requires-clause-formed
-write_shape-requires-clause-formed c = c.requires.formed
+returns-then-s-eq-FREE c = rw (← c.get_shape-s.ensures, eq-eqb _ 0 c.if-s-eq-FREE.true) (adds_nothing _ 5200)
 
 pub write_shape-requires-clause-readable : goal.write_shape-requires-clause-readable
 write_shape-requires-clause-readable c =
@@ -29,9 +26,6 @@ write_shape-requires-clause-properties_bound c =
     c.if-s-eq-FREE.false) in
     let keys = rw (← read) at (keys_fit _ c.requires.sound c.args.n used) in
     omega (arith, c.requires.image_bound)
-
-pub write_shape-requires-clause-at_in_bounds : goal.write_shape-requires-clause-at_in_bounds
-write_shape-requires-clause-at_in_bounds c = c.requires.at_in_bounds
 
 pub returns : goal.returns
 unfolding node_text

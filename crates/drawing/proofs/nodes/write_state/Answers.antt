@@ -7,6 +7,6 @@ pub returns-then-s-eq-UNIQUE : goal.returns-then-s-eq-UNIQUE
 unfolding state_text
 returns-then-s-eq-UNIQUE c = rw (eq-eqb _ 2 c.if-s-eq-UNIQUE.true) c.write_word.ensures
 
-pub returns : goal.returns
+pub returns-else-s-eq-UNIQUE : goal.returns-else-s-eq-UNIQUE
 unfolding state_text
-returns c = rw (ne_eqb _ 2 c.if-s-eq-UNIQUE.false) c.write_word-2.ensures
+returns-else-s-eq-UNIQUE c = rw (ne_eqb _ 2 c.if-s-eq-UNIQUE.false) c.write_word-else-s-eq-UNIQUE.ensures

@@ -10,7 +10,7 @@ returns-then-has_edge-wraps c =
     let Edge-of = c.edge_of-wanted in
     let get-shape = c.get_shape-shape in
     let counter = c.counter-wraps in
-    gives_back (parse args.image.now) args.place (step_in args.t) Edge-of.ensures get-shape.ensures
+    gives_back (parse args.image.now) args.place (step_in args.step) Edge-of.ensures get-shape.ensures
     counter.ensures c.has_edge.ensures c.if-has_edge-wraps.true c.dead_edges.ensures
 
 pub returns : goal.returns
@@ -18,5 +18,5 @@ returns c =
     let args = c.args in
     let Edge-of = c.edge_of-wanted in
     let get-shape = c.get_shape-shape in
-    gives_none (parse args.image.now) args.place (step_in args.t) Edge-of.ensures get-shape.ensures
+    gives_none (parse args.image.now) args.place (step_in args.step) Edge-of.ensures get-shape.ensures
     c.counter-wraps.ensures c.has_edge.ensures c.if-has_edge-wraps.false

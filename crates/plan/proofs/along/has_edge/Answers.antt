@@ -10,18 +10,18 @@ returns-in-Live c =
     let args = c.args in
     let Edge-of = c.edge_of in
     sym (ap is_made c.in-Live.is)
-    ∙ is_made_lem (parse args.image.now) args.place (step_in args.t) Edge-of.ensures c.get.ensures
+    ∙ is_made_lem (parse args.image.now) args.place (step_in args.step) Edge-of.ensures c.get.ensures
 
 pub returns-in-Dead : goal.returns-in-Dead
 returns-in-Dead c =
     let args = c.args in
     let Edge-of = c.edge_of in
     sym (ap is_made c.in-Dead.is)
-    ∙ is_made_lem (parse args.image.now) args.place (step_in args.t) Edge-of.ensures c.get.ensures
+    ∙ is_made_lem (parse args.image.now) args.place (step_in args.step) Edge-of.ensures c.get.ensures
 
 pub returns-in-Absent : goal.returns-in-Absent
 returns-in-Absent c =
     let args = c.args in
     let Edge-of = c.edge_of in
     sym (ap is_made c.in-Absent.is)
-    ∙ is_made_lem (parse args.image.now) args.place (step_in args.t) Edge-of.ensures c.get.ensures
+    ∙ is_made_lem (parse args.image.now) args.place (step_in args.step) Edge-of.ensures c.get.ensures

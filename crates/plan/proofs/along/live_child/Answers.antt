@@ -11,18 +11,18 @@ returns-in-Live c =
     let Edge-of = c.edge_of in
     let get = c.get in
     sym (ap live_child c.in-Live.is)
-    ∙ live_child_lem (parse args.image.now) args.place (step_in args.t) Edge-of.ensures get.ensures
+    ∙ live_child_lem (parse args.image.now) args.place (step_in args.step) Edge-of.ensures get.ensures
 
 pub returns-in-Dead : goal.returns-in-Dead
 returns-in-Dead c =
     let args = c.args in
     let Edge-of = c.edge_of in
     sym (ap live_child c.in-Dead.is)
-    ∙ live_child_lem (parse args.image.now) args.place (step_in args.t) Edge-of.ensures c.get.ensures
+    ∙ live_child_lem (parse args.image.now) args.place (step_in args.step) Edge-of.ensures c.get.ensures
 
 pub returns-in-Absent : goal.returns-in-Absent
 returns-in-Absent c =
     let args = c.args in
     let Edge-of = c.edge_of in
     sym (ap live_child c.in-Absent.is)
-    ∙ live_child_lem (parse args.image.now) args.place (step_in args.t) Edge-of.ensures c.get.ensures
+    ∙ live_child_lem (parse args.image.now) args.place (step_in args.step) Edge-of.ensures c.get.ensures

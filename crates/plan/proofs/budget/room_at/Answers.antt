@@ -7,20 +7,10 @@ use Rattle.theorems.specs.Facts.{used_place_inside, table-inside, keys_fit}
 use Rattle.plan.specs.Budget.{room-read}
 use Rattle.plan.proofs.budget.room_at.Goals as goal
 
-pub get_shape-shape-requires-clause-formed : goal.get_shape-shape-requires-clause-formed
-get_shape-shape-requires-clause-formed c =
-    let pre = c.requires in
-    pre.formed
-
 pub get_shape-shape-requires-clause-place : goal.get_shape-shape-requires-clause-place
 get_shape-shape-requires-clause-place c =
     let pre = c.requires in
     used_place_inside _ _ pre.used
-
-pub entry_count-entries-requires-clause-formed : goal.entry_count-entries-requires-clause-formed
-entry_count-entries-requires-clause-formed c =
-    let pre = c.requires in
-    pre.formed
 
 pub entry_count-entries-requires-clause-place : goal.entry_count-entries-requires-clause-place
 entry_count-entries-requires-clause-place c =

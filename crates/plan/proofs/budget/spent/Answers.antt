@@ -7,18 +7,13 @@ use Rattle.plan.proofs.budget.spent.Goals as goal
 pub overflow_sub-result : goal.overflow_sub-result
 overflow_sub-result c =
     let args = c.args in
-    let few = enough_keys (step_in args.t) args.room c.requires in
+    let few = enough_keys (step_in args.step) args.room c.requires in
     omega (arith, c.added.ensures)
 
 pub overflow_sub-result-2 : goal.overflow_sub-result-2
 overflow_sub-result-2 c =
     let pre = c.requires in
     let some = pre.shapes in omega arith
-
-pub tables_left-requires : goal.tables_left-requires
-tables_left-requires c =
-    let pre = c.requires in
-    pre.tables
 
 pub overflow_sub-result-3 : goal.overflow_sub-result-3
 overflow_sub-result-3 c =
@@ -29,5 +24,5 @@ pub returns : goal.returns
 returns c =
     let args = c.args in
     let added = c.added in
-    spent-each (step_in args.t) args.room added.ensures c.tables_left.ensures
+    spent-each (step_in args.step) args.room added.ensures c.tables_left.ensures
     c.whole_after.ensures

@@ -7,7 +7,6 @@ returns c =
     let pre = c.requires in
     let write-codes = c.write_codes in
     let IsEdge-count = c.edge_count in
-    let wide = c.wide in
     let first-are-distinct = c.first_are_distinct in
     edges-told pre.formed.limited.shapes pre.edges_known write-codes.ensures
-    (rw (wide.ensures, IsEdge-count.ensures) at first-are-distinct.ensures)
+    (rw IsEdge-count.ensures at first-are-distinct.ensures)

@@ -1,5 +1,5 @@
 -- `sound_shapes::codes::write_codes` meets its contract. Assumes nothing.
-use mathlib.Core.Path.{sym, ◌∙◌}
+use mathlib.Core.Path.{sym, ◌∙◌, refl}
 use native.Mathlib.Omega.{arith}
 use Rattle.store.specs.Layout.{parse}
 use Rattle.distinct.specs.Written.{written_none, written_next, written_all}
@@ -12,64 +12,29 @@ loop-done-init c =
     let pre = c.requires in
     written_none (omega (arith, length_codes 1 (parse args.image.now).edges, pre.image_in_bounds))
 
-pub overflow_add-done : goal.overflow_add-done
-overflow_add-done c =
-    let pre = c.requires in
-    let IsEdge-count = c.edge_count-count in
-    omega (arith, IsEdge-count.ensures, pre.formed.limited.edges)
-
-pub get_edge-requires-clause-formed : goal.get_edge-requires-clause-formed
-get_edge-requires-clause-formed c =
-    let pre = c.requires in
-    pre.formed
-
-pub get_edge-requires-clause-place : goal.get_edge-requires-clause-place
-get_edge-requires-clause-place c =
-    let IsEdge-count = c.edge_count-count in
-    record { low = omega arith; high = omega (arith, IsEdge-count.ensures) }
-
-pub overflow_add-done-in-loop-done : goal.overflow_add-done-in-loop-done
-overflow_add-done-in-loop-done c =
-    let pre = c.requires in
-    let IsEdge-count = c.edge_count-count in
-    omega (arith, IsEdge-count.ensures, pre.formed.limited.edges)
-
 pub edge_code-requires : goal.edge_code-requires
 edge_code-requires c =
     let pre = c.requires in
     rw c.get_edge.ensures (edge_coded pre.formed.limited.shapes pre.edges_known _)
 
-pub bounds-codes-place : goal.bounds-codes-place
-bounds-codes-place c =
-    let pre = c.requires in
-    let IsEdge-count = c.edge_count-count in
-    let loop = c.loop-done in
-    let loop-test = c.loop-done-test in
-    let wide = c.wide-place in
-    omega (arith, loop.invariant.kept, loop-test.true, wide.ensures, IsEdge-count.ensures, pre.image_in_bounds)
-
 pub loop-done-preserved : goal.loop-done-preserved
 loop-done-preserved c =
     let args = c.args in
-    let IsEdge-count = c.edge_count-count in
+    let IsEdge-count = c.edge_count-done-end in
     let loop = c.loop-done in
     let loop-test = c.loop-done-test in
-    let wide = c.wide-place in
     let get-edge = c.get_edge in
     written_next loop.invariant
     (omega (arith, length_codes 1 (parse args.image.now).edges, IsEdge-count.ensures, loop-test.true))
-    wide.ensures
+    refl
     (c.edge_code.ensures
     ∙ code-next (parse args.image.now) _ (omega (arith, IsEdge-count.ensures, loop-test.true))
     get-edge.ensures)
 
-pub shape_of-codes : goal.shape_of-codes
-shape_of-codes c = c.loop-done.invariant.kept
-
 pub returns : goal.returns
 returns c =
     let args = c.args in
-    let IsEdge-count = c.edge_count-count in
+    let IsEdge-count = c.edge_count-done-end in
     let loop = c.loop-done in
     written_all loop.invariant (sym (length_codes 1 (parse args.image.now).edges))
     (omega (arith, IsEdge-count.ensures, c.loop-done-test.false))

@@ -1,5 +1,4 @@
 -- `sound_shapes::codes::write_codes` meets its contract. Assumes nothing.
-use Prim.Native.Nat.{◌-◌}
 use lib.ListN.{length}
 use Rattle.store.specs.Layout.{parse}
 use Rattle.distinct.specs.Written.{Written}
@@ -8,6 +7,3 @@ use Rattle.sound_shapes.proofs.codes.write_codes.Given as goal
 
 abbrev pub invariant-loop-done : goal.invariant-loop-done
 invariant-loop-done l = Written (edge_codes 1 (parse l.image).edges) (length l.initial.codes) l.done l.codes
-
-abbrev pub decreases-loop-done : goal.decreases-loop-done
-decreases-loop-done l = l.count - l.done

@@ -1,18 +1,10 @@
 -- `sound_shapes::shapes::shape_is_good` meets its contract. Assumes nothing.
 use borrow.Author.Tests.{not-true}
 use Rattle.rules.specs.InUse.{used_table_inside}
-use Rattle.sound_shapes.specs.Answers.{table_in_range, free_is_good, no_table}
+use Rattle.sound_shapes.specs.Answers.{table_in_range}
 use Rattle.sound_shapes.specs.Answers.{fields_answer}
 use mathlib.Core.Path.{sym, ◌∙◌}
 use Rattle.sound_shapes.proofs.shapes.shape_is_good.Goals as goal
-
-pub returns-then-s-eq-FREE : goal.returns-then-s-eq-FREE
-returns-then-s-eq-FREE c = free_is_good _ _ c.get_shape-s.ensures c.if-s-eq-FREE.true
-
-pub is_table-requires-clause-formed : goal.is_table-requires-clause-formed
-is_table-requires-clause-formed c =
-    let pre = c.requires in
-    pre.formed
 
 pub is_table-requires-clause-t_in_bounds : goal.is_table-requires-clause-t_in_bounds
 is_table-requires-clause-t_in_bounds c =
@@ -20,11 +12,6 @@ is_table-requires-clause-t_in_bounds c =
     let get-shape = c.get_shape-s in
     let if1 = c.if-s-eq-FREE in
     table_in_range _ _ get-shape.ensures pre.image_value if1.false
-
-pub entry_count-requires-clause-formed : goal.entry_count-requires-clause-formed
-entry_count-requires-clause-formed c =
-    let pre = c.requires in
-    pre.formed
 
 pub entry_count-requires-clause-place : goal.entry_count-requires-clause-place
 entry_count-requires-clause-place c =
@@ -42,11 +29,3 @@ returns-then-is_table c =
     let own-fields-are-good = c.own_fields_are_good in
     fields_answer _ _ get-shape.ensures if1.false is-table.ensures if2.true
     entry-count.ensures own-fields-are-good.ensures
-
-pub returns : goal.returns
-returns c =
-    let get-shape = c.get_shape-s in
-    let if1 = c.if-s-eq-FREE in
-    let is-table = c.is_table in
-    let if2 = c.if-is_table in
-    no_table _ _ get-shape.ensures if1.false is-table.ensures if2.false

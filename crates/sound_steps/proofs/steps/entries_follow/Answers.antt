@@ -18,42 +18,6 @@ returns-then-s-before c =
     let if2 = c.if-s-before in
     insert_differs pre.tabled pre.tabled_2 args.edge if1.true if2.true
 
-pub get_entry-last-requires-clause-formed : goal.get_entry-last-requires-clause-formed
-get_entry-last-requires-clause-formed c =
-    let pre = c.requires in
-    pre.formed
-
-pub get_entry-last-requires-clause-place : goal.get_entry-last-requires-clause-place
-get_entry-last-requires-clause-place c =
-    let pre = c.requires in
-    pre.tabled_2.table
-
-pub get_entry-last-requires-clause-position_in_bounds : goal.get_entry-last-requires-clause-position_in_bounds
-get_entry-last-requires-clause-position_in_bounds c =
-    let pre = c.requires in
-    let if2 = c.if-s-before in
-    omega (arith, if2.false, pre.tabled_2.fits)
-
-pub same_first-requires-clause-formed : goal.same_first-requires-clause-formed
-same_first-requires-clause-formed c =
-    let pre = c.requires in
-    pre.formed
-
-pub same_first-requires-clause-tabled : goal.same_first-requires-clause-tabled
-same_first-requires-clause-tabled c =
-    let pre = c.requires in
-    pre.tabled
-
-pub same_first-requires-clause-tabled_2 : goal.same_first-requires-clause-tabled_2
-same_first-requires-clause-tabled_2 c =
-    let pre = c.requires in
-    pre.tabled_2
-
-pub same_first-requires-clause-properties_le_properties : goal.same_first-requires-clause-properties_le_properties
-same_first-requires-clause-properties_le_properties c =
-    let if2 = c.if-s-before in
-    omega (arith, if2.false)
-
 pub returns-then-s-eq-INSERT : goal.returns-then-s-eq-INSERT
 returns-then-s-eq-INSERT c =
     let pre = c.requires in
@@ -72,26 +36,6 @@ returns-then-s-before-2 c =
     let if1 = c.if-s-eq-INSERT in
     let if3 = c.if-s-before-2 in
     others_differ pre.tabled pre.tabled_2 args.edge if1.false if3.true
-
-pub same_first-requires-2-clause-formed : goal.same_first-requires-2-clause-formed
-same_first-requires-2-clause-formed c =
-    let pre = c.requires in
-    pre.formed
-
-pub same_first-requires-2-clause-tabled : goal.same_first-requires-2-clause-tabled
-same_first-requires-2-clause-tabled c =
-    let pre = c.requires in
-    pre.tabled
-
-pub same_first-requires-2-clause-tabled_2 : goal.same_first-requires-2-clause-tabled_2
-same_first-requires-2-clause-tabled_2 c =
-    let pre = c.requires in
-    pre.tabled_2
-
-pub same_first-requires-2-clause-properties_le_properties : goal.same_first-requires-2-clause-properties_le_properties
-same_first-requires-2-clause-properties_le_properties c =
-    let if3 = c.if-s-before-2 in
-    omega (arith, if3.false)
 
 pub returns : goal.returns
 returns c =

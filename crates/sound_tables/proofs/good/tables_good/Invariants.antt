@@ -1,7 +1,4 @@
 -- `sound_tables::good::tables_good` meets its contract. Assumes nothing.
-use mathlib.Core.Path.{◌≡◌}
-use Prim.Native.Nat.{◌-◌}
-use lib.ListN.{length}
 use Rattle.rules.specs.Sound.{tables_good}
 use Rattle.store.specs.Layout.{parse}
 use Rattle.store.specs.Model.{free}
@@ -12,8 +9,3 @@ use Rattle.sound_tables.proofs.good.tables_good.Given as goal
 abbrev pub invariant-loop-done : goal.invariant-loop-done
 invariant-loop-done l =
     Scanning (places_scan free good_table (parse l.image).tables) l.done (tables_good (parse l.image))
-    × (length l.codes ≡ length l.initial.codes)
-    × (length l.room ≡ length l.initial.room)
-
-abbrev pub decreases-loop-done : goal.decreases-loop-done
-decreases-loop-done l = l.count - l.done

@@ -1,7 +1,6 @@
 -- `sound_tables::tidy::tidy_rows` meets its contract. Assumes nothing.
 use mathlib.Core.List.{[]}
 use Rattle.store.specs.Layout.{rows, tidy_table}
-use Prim.Native.Nat.{◌-◌}
 use Rattle.store.specs.Lists.{every}
 use lib.ListN.{drop}
 use Rattle.store.specs.Scans.{Scanning, every_scan}
@@ -11,6 +10,3 @@ abbrev pub invariant-loop-done : goal.invariant-loop-done
 invariant-loop-done l =
     let tables = rows l.width l.count (drop l.area l.image) in
     Scanning (every_scan [] (tidy_table l.keys) tables) l.done (every (tidy_table l.keys) tables)
-
-abbrev pub decreases-loop-done : goal.decreases-loop-done
-decreases-loop-done l = l.count - l.done

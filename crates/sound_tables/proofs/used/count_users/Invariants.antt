@@ -1,12 +1,8 @@
 -- `sound_tables::used::count_users` meets its contract. Assumes nothing.
 use lib.ListN.{length}
-use Prim.Native.Nat.{◌-◌}
 use Rattle.store.specs.Layout.{parse}
 use Rattle.sound_tables.specs.Used.{CountingUsers}
 use Rattle.sound_tables.proofs.used.count_users.Given as goal
 
 abbrev pub invariant-loop-done : goal.invariant-loop-done
 invariant-loop-done l = CountingUsers (parse l.image) (length l.initial.users) l.done l.users
-
-abbrev pub decreases-loop-done : goal.decreases-loop-done
-decreases-loop-done l = l.count - l.done

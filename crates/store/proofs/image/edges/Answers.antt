@@ -1,5 +1,4 @@
 -- `store::image::edges` meets its contract. Assumes nothing.
-use mathlib.Core.Path.{◌∙◌}
 use lib.Dec.{lit<}
 use native.Mathlib.Omega.{arith}
 use Rattle.store.specs.Image.{header_there, header_word}
@@ -9,4 +8,4 @@ pub bounds-image-6 : goal.bounds-image-6
 bounds-image-6 c = omega (arith, header_there c.requires)
 
 pub returns : goal.returns
-returns c = c.wide.ensures ∙ header_word c.requires 6 (lit< tt)
+returns c = header_word c.requires 6 (lit< tt)

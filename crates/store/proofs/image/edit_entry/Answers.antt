@@ -1,5 +1,5 @@
 -- `store::image::edit_entry` meets its contract. Assumes nothing.
-use Rattle.store.specs.Tables.{entry-inside, edit_becomes}
+use Rattle.store.specs.Tables.{edit_becomes}
 use Rattle.store.specs.Image.{table_row}
 use mathlib.Core.Path.{refl}
 use native.Mathlib.Omega.{arith}
@@ -12,37 +12,12 @@ row_at-at-requires c =
     let table-width = c.table_width-width in
     (pre.place.low, (table_row pre.formed tables.ensures table-width.ensures pre.place).inside)
 
-pub overflow_add-end : goal.overflow_add-end
-overflow_add-end c =
-    let pre = c.requires in
-    let tables = c.tables in
-    let table-width = c.table_width-width in
-    omega (arith, (table_row pre.formed tables.ensures table-width.ensures pre.place).inside)
-
-pub offset_bounds-image-at : goal.offset_bounds-image-at
-offset_bounds-image-at c =
-    let pre = c.requires in
-    let tables = c.tables in
-    let table-width = c.table_width-width in
-    omega (arith, (table_row pre.formed tables.ensures table-width.ensures pre.place).inside)
-
 pub slice_bounds-edit_table-end : goal.slice_bounds-edit_table-end
 slice_bounds-edit_table-end c =
     let pre = c.requires in
     let tables = c.tables in
     let table-width = c.table_width-width in
     omega (arith, (table_row pre.formed tables.ensures table-width.ensures pre.place).inside)
-
-pub edit_table-requires : goal.edit_table-requires
-edit_table-requires c =
-    let pre = c.requires in
-    let tables = c.tables in
-    let table-width = c.table_width-width in
-    let row_at = c.row_at-at in
-    let args = c.args in
-    let both = entry-inside pre.formed pre.place tables.ensures table-width.ensures row_at.ensures refl
-    args.position.0 pre.position_bound in
-    record { position_bound = both.0; position_in_bounds = both.1 }
 
 pub returns : goal.returns
 returns c =

@@ -5,17 +5,6 @@ use mathlib.Core.List.{[]}
 use mathlib.Core.Path.{◌∙◌, ap}
 use Rattle.store.proofs.image.empty_table.Goals as goal
 
-pub start_table-requires-clause-formed : goal.start_table-requires-clause-formed
-start_table-requires-clause-formed c =
-    let free-table = c.free_table in
-    free-table.ensures.formed
-
-pub start_table-requires-clause-place : goal.start_table-requires-clause-place
-start_table-requires-clause-place c =
-    let free-table = c.free_table in
-    let pre = c.requires in
-    rw free-table.ensures.sizes.tables pre.place
-
 pub start_table-requires-clause-t_value : goal.start_table-requires-clause-t_value
 start_table-requires-clause-t_value c =
     let free-table = c.free_table in

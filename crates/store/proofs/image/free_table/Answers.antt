@@ -2,6 +2,7 @@
 use Rattle.store.specs.Tables.{cleared_becomes}
 use Rattle.store.specs.Image.{table_row}
 use mathlib.Core.Path.{refl}
+use Rattle.std.proofs.Common.{rules}
 use native.Mathlib.Omega.{arith}
 use Rattle.store.proofs.image.free_table.Goals as goal
 
@@ -12,22 +13,8 @@ row_at-at-requires c =
     let table-width = c.table_width-width in
     (pre.place.low, (table_row pre.formed tables.ensures table-width.ensures pre.place).inside)
 
-pub overflow_add-end : goal.overflow_add-end
-overflow_add-end c =
-    let pre = c.requires in
-    let tables = c.tables in
-    let table-width = c.table_width-width in
-    omega (arith, (table_row pre.formed tables.ensures table-width.ensures pre.place).inside)
-
-pub offset_bounds-image-at : goal.offset_bounds-image-at
-offset_bounds-image-at c =
-    let pre = c.requires in
-    let tables = c.tables in
-    let table-width = c.table_width-width in
-    omega (arith, (table_row pre.formed tables.ensures table-width.ensures pre.place).inside)
-
-pub slice_bounds-clear-end : goal.slice_bounds-clear-end
-slice_bounds-clear-end c =
+pub slice_bounds-fill-end : goal.slice_bounds-fill-end
+slice_bounds-fill-end c =
     let pre = c.requires in
     let tables = c.tables in
     let table-width = c.table_width-width in
@@ -39,6 +26,5 @@ returns c =
     let tables = c.tables in
     let table-width = c.table_width-width in
     let row_at = c.row_at-at in
-    let clear = c.clear in
     cleared_becomes pre.formed pre.place tables.ensures table-width.ensures row_at.ensures refl
-    clear.ensures
+    (search rules)

@@ -10,18 +10,6 @@ row_at-at-requires c =
     let edges = c.edges in
     (pre.place.low, (edge_row pre.formed edges.ensures pre.place).inside)
 
-pub overflow_add-end : goal.overflow_add-end
-overflow_add-end c =
-    let pre = c.requires in
-    let edges = c.edges in
-    omega (arith, (edge_row pre.formed edges.ensures pre.place).inside)
-
-pub offset_bounds-image-at : goal.offset_bounds-image-at
-offset_bounds-image-at c =
-    let pre = c.requires in
-    let edges = c.edges in
-    omega (arith, (edge_row pre.formed edges.ensures pre.place).inside)
-
 pub slice_bounds-write_edge-end : goal.slice_bounds-write_edge-end
 slice_bounds-write_edge-end c =
     let pre = c.requires in

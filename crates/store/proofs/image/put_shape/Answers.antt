@@ -9,16 +9,6 @@ row_at-at-requires c =
     let pre = c.requires in
     (pre.place.low, (shape_row pre.formed pre.place).inside)
 
-pub overflow_add-end : goal.overflow_add-end
-overflow_add-end c =
-    let pre = c.requires in
-    omega (arith, (shape_row pre.formed pre.place).inside)
-
-pub offset_bounds-image-at : goal.offset_bounds-image-at
-offset_bounds-image-at c =
-    let pre = c.requires in
-    omega (arith, (shape_row pre.formed pre.place).inside)
-
 pub slice_bounds-write_shape-end : goal.slice_bounds-write_shape-end
 slice_bounds-write_shape-end c =
     let pre = c.requires in

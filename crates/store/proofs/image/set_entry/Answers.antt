@@ -3,16 +3,6 @@ use Rattle.store.specs.Tables.{entries_fit, set_becomes}
 use native.Mathlib.Omega.{arith}
 use Rattle.store.proofs.image.set_entry.Goals as goal
 
-pub edit_entry-requires-clause-formed : goal.edit_entry-requires-clause-formed
-edit_entry-requires-clause-formed c =
-    let pre = c.requires in
-    pre.formed
-
-pub edit_entry-requires-clause-place : goal.edit_entry-requires-clause-place
-edit_entry-requires-clause-place c =
-    let pre = c.requires in
-    pre.place
-
 pub edit_entry-requires-clause-position_bound : goal.edit_entry-requires-clause-position_bound
 edit_entry-requires-clause-position_bound c =
     let pre = c.requires in

@@ -12,13 +12,6 @@ row_at-at-requires c =
     let table-width = c.table_width in
     (pre.place.low, (table_row pre.formed tables.ensures table-width.ensures pre.place).inside)
 
-pub offset_bounds-image-at : goal.offset_bounds-image-at
-offset_bounds-image-at c =
-    let pre = c.requires in
-    let tables = c.tables in
-    let table-width = c.table_width in
-    omega (arith, (table_row pre.formed tables.ensures table-width.ensures pre.place).inside)
-
 pub bounds-image-at : goal.bounds-image-at
 bounds-image-at c =
     let pre = c.requires in

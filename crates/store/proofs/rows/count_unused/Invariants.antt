@@ -3,11 +3,7 @@ use Rattle.store.specs.FreePlaces.{unused}
 use Rattle.store.specs.Scans.{Counting}
 use Rattle.store.specs.Layout.{rows}
 use lib.ListN.{drop}
-use Prim.Native.Nat.{◌-◌}
 use Rattle.store.proofs.rows.count_unused.Given as goal
 
 abbrev pub invariant-loop-done : goal.invariant-loop-done
 invariant-loop-done l = Counting unused (rows l.width l.count (drop l.area l.image)) l.done l.free
-
-abbrev pub decreases-loop-done : goal.decreases-loop-done
-decreases-loop-done l = l.count - l.done

@@ -4,7 +4,6 @@ use Rattle.store.specs.Scans.{Scanning, lowest_scan}
 use Rattle.store.specs.Lists.{lowest}
 use Rattle.store.specs.Layout.{rows}
 use lib.ListN.{drop}
-use Prim.Native.Nat.{◌-◌}
 use mathlib.Core.List.{[]}
 use Rattle.store.proofs.rows.lowest_unused.Given as goal
 
@@ -12,6 +11,3 @@ abbrev pub invariant-loop-done : goal.invariant-loop-done
 invariant-loop-done l =
     Scanning (lowest_scan [] unused (rows l.width l.count (drop l.area l.image))) l.done
     (lowest unused 1 (rows l.width l.count (drop l.area l.image)))
-
-abbrev pub decreases-loop-done : goal.decreases-loop-done
-decreases-loop-done l = l.count - l.done

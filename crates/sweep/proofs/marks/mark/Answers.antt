@@ -3,12 +3,5 @@ use mathlib.Core.Path.{sym}
 use lib.Seq.{set_out}
 use Rattle.sweep.proofs.marks.mark.Goals as goal
 
-pub returns-then-at-marks : goal.returns-then-at-marks
-returns-then-at-marks c = rw (← c.wide-at.ensures)
-
 pub returns-else-at-marks : goal.returns-else-at-marks
-returns-else-at-marks c =
-    let args = c.args in
-    let wide = c.wide-at in
-    let if1 = c.if-at-marks in
-    sym (set_out args.marks.now args.n 1 (rw wide.ensures at if1.false))
+returns-else-at-marks c = sym (set_out c.args.marks.now c.args.n 1 c.if-at-marks.false)

@@ -8,7 +8,7 @@ use Rattle.store.specs.Model.{Table, free, table_at, put_table}
 use Rattle.store.specs.Layout.{parse}
 use Rattle.rules.specs.Sound.{uses}
 use Rattle.sweep.specs.Marks.{marked}
-use Rattle.store.specs.Passes.{of_tables, pass_start, pass_next, pass_end}
+use Rattle.store.specs.Passes.{of_tables, pass_start, pass_next}
 use Rattle.sweep.specs.Passes.{kept_long, kept_at}
 use Rattle.sweep.proofs.passes.free_unmarked_tables.Goals as goal
 
@@ -19,33 +19,6 @@ loop-done-init c =
     pass_start of_tables _ pre.formed
     (kept_long (λ t. any (uses t) (parse args.image.now).shapes) free
     (parse args.image.now).tables)
-
-pub overflow_add-done : goal.overflow_add-done
-overflow_add-done c =
-    let pre = c.requires in
-    omega (arith, pre.formed.limited.tables)
-
-pub sweep_table-requires-clause-formed : goal.sweep_table-requires-clause-formed
-sweep_table-requires-clause-formed c =
-    let loop = c.loop-done in
-    let become = loop.invariant.become in
-    become.formed
-
-pub sweep_table-requires-clause-place : goal.sweep_table-requires-clause-place
-sweep_table-requires-clause-place c =
-    let loop = c.loop-done in
-    let table-count = c.table_count-count in
-    let become = loop.invariant.become in
-    let many = table-count.ensures in
-    record { low = omega arith; high = rw become.sizes.tables (omega (arith, many)) }
-
-pub overflow_add-done-in-loop-done : goal.overflow_add-done-in-loop-done
-overflow_add-done-in-loop-done c =
-    let pre = c.requires in
-    omega (arith, pre.formed.limited.tables)
-
-pub loop-done-smaller : goal.loop-done-smaller
-loop-done-smaller c = omega (arith, c.table_count-count.ensures)
 
 pub loop-done-preserved : goal.loop-done-preserved
 unfolding table_at put_table
@@ -61,9 +34,3 @@ loop-done-preserved c =
     (kept_at (λ t. any (uses t) (parse args.image.now).shapes) free (parse args.image.now).tables
     loop.done
     ∙ rw (← (pre.by_index (loop.done + 1) (omega (arith, table-count.ensures))))) sweep-table.ensures
-
-pub shape_of-image : goal.shape_of-image
-shape_of-image c = c.loop-done.invariant.become.long
-
-pub returns : goal.returns
-returns c = pass_end of_tables c.loop-done.invariant (omega (arith, c.table_count-count.ensures))

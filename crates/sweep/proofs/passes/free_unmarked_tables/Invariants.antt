@@ -1,6 +1,4 @@
 -- `sweep::passes::free_unmarked_tables` meets its contract. Assumes nothing.
-use Prim.Native.Nat.{◌-◌}
-use lib.ListN.{length}
 use Rattle.store.specs.Layout.{parse}
 use Rattle.rules.specs.Sweep.{sweep_tables}
 use Rattle.store.specs.Passes.{of_tables, Pass}
@@ -8,6 +6,3 @@ use Rattle.sweep.proofs.passes.free_unmarked_tables.Given as goal
 
 abbrev pub invariant-loop-done : goal.invariant-loop-done
 invariant-loop-done l = Pass of_tables (sweep_tables (parse l.initial.image).shapes (parse l.initial.image).tables) l.initial.image l.image l.done
-
-abbrev pub decreases-loop-done : goal.decreases-loop-done
-decreases-loop-done l = length (parse l.initial.image).tables - l.done

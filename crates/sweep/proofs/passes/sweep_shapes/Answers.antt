@@ -6,7 +6,7 @@ use Rattle.store.specs.declared.Shape.{Shape}
 use Rattle.store.specs.Model.{no_shape, shape_at, put_shape}
 use Rattle.store.specs.Layout.{parse}
 use Rattle.sweep.specs.Marks.{marked}
-use Rattle.store.specs.Passes.{of_shapes, pass_start, pass_next, pass_end}
+use Rattle.store.specs.Passes.{of_shapes, pass_start, pass_next}
 use Rattle.sweep.specs.Passes.{kept_long, kept_at}
 use Rattle.sweep.proofs.passes.sweep_shapes.Goals as goal
 
@@ -16,33 +16,6 @@ loop-done-init c =
     let args = c.args in
     pass_start of_shapes _ pre
     (kept_long (marked args.marks.now) no_shape (parse args.image.now).shapes)
-
-pub overflow_add-done : goal.overflow_add-done
-overflow_add-done c =
-    let pre = c.requires in
-    omega (arith, pre.limited.shapes)
-
-pub sweep_shape-requires-clause-formed : goal.sweep_shape-requires-clause-formed
-sweep_shape-requires-clause-formed c =
-    let loop = c.loop-done in
-    let become = loop.invariant.become in
-    become.formed
-
-pub sweep_shape-requires-clause-place : goal.sweep_shape-requires-clause-place
-sweep_shape-requires-clause-place c =
-    let loop = c.loop-done in
-    let shape-count = c.shape_count-count in
-    let become = loop.invariant.become in
-    let many = shape-count.ensures in
-    record { low = omega arith; high = rw become.sizes.shapes (omega (arith, many)) }
-
-pub overflow_add-done-in-loop-done : goal.overflow_add-done-in-loop-done
-overflow_add-done-in-loop-done c =
-    let pre = c.requires in
-    omega (arith, pre.limited.shapes)
-
-pub loop-done-smaller : goal.loop-done-smaller
-loop-done-smaller c = omega (arith, c.shape_count-count.ensures)
 
 pub loop-done-preserved : goal.loop-done-preserved
 unfolding shape_at put_shape
@@ -56,9 +29,3 @@ loop-done-preserved c =
     (omega (arith, shape-count.ensures))
     (kept_at (marked args.marks.now) no_shape (parse args.image.now).shapes loop.done)
     sweep-shape.ensures
-
-pub shape_of-image : goal.shape_of-image
-shape_of-image c = c.loop-done.invariant.become.long
-
-pub returns : goal.returns
-returns c = pass_end of_shapes c.loop-done.invariant (omega (arith, c.shape_count-count.ensures))

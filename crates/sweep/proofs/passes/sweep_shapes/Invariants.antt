@@ -1,6 +1,4 @@
 -- `sweep::passes::sweep_shapes` meets its contract. Assumes nothing.
-use Prim.Native.Nat.{◌-◌}
-use lib.ListN.{length}
 use Rattle.store.specs.Layout.{parse}
 use Rattle.rules.specs.Sweep.{sweep_shapes}
 use Rattle.sweep.specs.Marks.{marked}
@@ -9,6 +7,3 @@ use Rattle.sweep.proofs.passes.sweep_shapes.Given as goal
 
 abbrev pub invariant-loop-done : goal.invariant-loop-done
 invariant-loop-done l = Pass of_shapes (sweep_shapes (marked l.marks) (parse l.initial.image).shapes) l.initial.image l.image l.done
-
-abbrev pub decreases-loop-done : goal.decreases-loop-done
-decreases-loop-done l = length (parse l.initial.image).shapes - l.done

@@ -11,10 +11,3 @@ returns-then-is_marked c =
     let args = c.args in
     let pre = c.requires in
     rw (← is-marked.ensures, if1.true) (stays of_tables args.t pre.formed)
-
-pub returns : goal.returns
-returns c =
-    let is-marked = c.is_marked in
-    let if1 = c.if-is_marked in
-    let free-table = c.free_table in
-    rw (← is-marked.ensures, if1.false) free-table.ensures

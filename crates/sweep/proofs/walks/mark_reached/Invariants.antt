@@ -1,5 +1,5 @@
 -- `sweep::walks::mark_reached` meets its contract. Assumes nothing.
-use Prim.Native.Nat.{◌≤◌, ◌-◌}
+use Prim.Native.Nat.{◌≤◌}
 use lib.ListN.{length}
 use Rattle.store.specs.Layout.{parse}
 use Rattle.sweep.specs.Walks.{Walks}
@@ -7,6 +7,3 @@ use Rattle.sweep.proofs.walks.mark_reached.Given as goal
 
 abbrev pub invariant-loop-done : goal.invariant-loop-done
 invariant-loop-done l = (l.done ≤ length (parse l.image).shapes) × Walks (parse l.image) l.initial.marks l.marks l.done
-
-abbrev pub decreases-loop-done : goal.decreases-loop-done
-decreases-loop-done l = length (parse l.image).shapes - l.done

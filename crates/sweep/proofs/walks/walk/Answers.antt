@@ -1,28 +1,9 @@
 -- `sweep::walks::walk` meets its contract. Assumes nothing.
 use mathlib.Core.Path.{sym, ◌∙◌}
-use mathlib.Core.Logic.{inl, inr}
 use Rattle.theorems.specs.Facts.{used_place_inside}
 use Rattle.sweep.specs.Marks.{unmarked-less}
-use Rattle.sweep.specs.Walks.{walk_start, walk_on, walk_end, standing-inside, standing_on_chain}
+use Rattle.sweep.specs.Walks.{walk_on, standing-inside, standing_on_chain}
 use Rattle.sweep.proofs.walks.walk.Goals as goal
-
-pub loop-n-init : goal.loop-n-init
-loop-n-init c = walk_start _ c.requires.marking c.requires.on_held_chain
-
-pub shape_of-marks-then-is_marked : goal.shape_of-marks-then-is_marked
-shape_of-marks-then-is_marked c = c.loop-n.invariant.long
-
-pub returns-then-is_marked : goal.returns-then-is_marked
-returns-then-is_marked c =
-    let loop = c.loop-n in
-    let is-marked = c.is_marked in
-    let if1 = c.if-is_marked in
-    walk_end _ loop.invariant (inl (sym is-marked.ensures ∙ if1.true))
-
-pub get_shape-s-requires-clause-formed : goal.get_shape-s-requires-clause-formed
-get_shape-s-requires-clause-formed c =
-    let pre = c.requires in
-    pre.formed
 
 pub get_shape-s-requires-clause-place : goal.get_shape-s-requires-clause-place
 get_shape-s-requires-clause-place c =
@@ -49,9 +30,3 @@ loop-n-preserved c =
     let pre = c.requires in
     let loop-test = c.loop-n-test in
     rw (mark.ensures, get-shape.ensures) (walk_on _ loop.invariant pre.sound loop-test.true)
-
-pub shape_of-marks : goal.shape_of-marks
-shape_of-marks c = c.loop-n.invariant.long
-
-pub returns : goal.returns
-returns c = walk_end _ c.loop-n.invariant (inr (inl c.loop-n-test.false))
