@@ -58,7 +58,8 @@ pub adds_word : {before after : Page} (word : List ℕ) (k : ℕ) → k ≡ leng
 adds_word {before} {after} word k many within same copied ended =
     let old = before.bytes.now in
     let at = before.end in
-    let rest : drop k (drop at old) ≡ drop (at + length word) old = drop-drop k at old ∙ ap (λ n. drop (at + n) old) many in
+    let rest : drop k (drop at old) ≡ drop (at + length word) old
+    = drop-drop k at old ∙ ap (λ n. drop (at + n) old) many in
     let put : put_mid at k old word ≡ take at old ++ word ++ drop (at + length word) old
     = ap (λ (tail : List ℕ). take at old ++ (word ++ tail)) rest ∙ sym (append_assoc (take at old) word _) in
     let stored = copied ∙ put ∙ sym (sets-eq word old at within) in

@@ -5,8 +5,8 @@ ghost use Rattle.lines.specs.Writing.{reply_text, Written};
 
 use crate::page::Page;
 
-// In decimal, without leading zeros: the digits before the last first. Answers where it ends. The place is a number here
-// and no page, since it is handed on from call to call: a page would lie in memory, and each byte take longer.
+// In decimal, without leading zeros: the digits before the last first. Answers where it ends. It hands the place on to
+// itself as a number: a page that it handed on would lie in memory, and each byte take longer.
 pub fn write_number(out: &mut [u8], at: usize, n: u32) -> usize
     requires { at + length (decimal_digits n) ≤ length out.old }
     ensures { Written out.old out.new at (decimal_digits n) result }
@@ -20,7 +20,8 @@ pub fn write_number(out: &mut [u8], at: usize, n: u32) -> usize
     end + 1
 }
 
-// The four numbers with single spaces and a line feed. Answers where they end. Public, as it was: it stays beside the page's own.
+// The four numbers with single spaces and a line feed. Answers where they end. Both functions are public, and stay
+// beside the page's own.
 pub fn write_reply(
     out: &mut [u8],
     at: usize,
