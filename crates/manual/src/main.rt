@@ -51,9 +51,10 @@ fn replay(rt: &impl Print, image: &mut [u32; 6952], lessons: &[u8]) -> io::Resul
     let mut rest = lessons;
     // A `for` over `lessons.split_inclusive(..)` gets no proof in a function over an `impl Print`.
     while !rest.is_empty() {
-        let end = line_end(rest);
-        replay_line(rt, image, &rest[..end])?;
-        rest = rest.get(end + 1..).unwrap_or(&[]);
+        let (line, others) = rest.split_at(line_end(rest));
+        replay_line(rt, image, line)?;
+        // Behind the newline.
+        rest = others.get(1..).unwrap_or(&[]);
     }
     Ok(())
 }
