@@ -5,7 +5,7 @@
 
 use replies::done_numbers;
 use rules::{ChangeTransitionAction, GivenShape, Refusal};
-use std::io;
+use std::{fmt, io};
 use store::Limits;
 
 const A: u32 = 1;
@@ -45,10 +45,20 @@ enum Step {
 }
 
 // What ends the sheet before its end: a refusal, by its number, or a line that is not printed.
-#[derive(Debug, Drop)]
+#[derive(Drop)]
 enum Failure {
     Refused(u32),
     Unprinted(io::Error),
+}
+
+// The program ends with it: a failed write is told as any program's.
+impl fmt::Debug for Failure {
+    fn fmt<W: fmt::Write>(&self, f: &mut fmt::Formatter<W>) -> fmt::Result {
+        match self {
+            Failure::Refused(number) => write!(f, "refusal {number}"),
+            Failure::Unprinted(error) => write!(f, "{error:?}"),
+        }
+    }
 }
 
 impl From<Refusal> for Failure {

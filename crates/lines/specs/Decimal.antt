@@ -87,6 +87,14 @@ few-digits (suc k) n l = go (either (ltb n 10)) (few-digits k (n / 10))
 pub ten_digits : (n : ℕ) → n < 2 ^ 32 → length (decimal_digits n) ≤ 10
 ten_digits n l = few-digits 9 n (omega arith)
 
+-- At least one.
+pub digits_some : (n : ℕ) → 1 ≤ length (decimal_digits n)
+digits_some n = go (either (ltb n 10))
+  where
+    go : Decided (ltb n 10) → 1 ≤ length (decimal_digits n)
+    go (inl e) = rw (digits-small n (ltb-true n 10 e)) (omega arith)
+    go (inr e) = rw (digits_large n (ltb-false n 10 e), length-append) (omega arith)
+
 -- ## Read back
 
 decimal_digit : (v d : ℕ) (ds : List ℕ) → within 48 57 d ≡ true

@@ -1,11 +1,13 @@
 -- Texts written one after the other on a page, each with the most bytes that it may have.
 -- Assumes nothing.
-use Rattle.std.specs.Prelude.{List, [], ◌∷◌, ◌++◌, ◌≡◌, refl, ℕ, ◌+◌, ◌-◌, ◌/◌, ◌%◌, ◌^◌, ◌≤◌, ◌<◌, length, get_or, take}
-use Rattle.std.proofs.Common.{◌∙◌, add-one, add-zero, arith, length-append, take-suc}
-use Rattle.std.proofs.Math.Seq.{take-length, append_snoc}
+use Rattle.std.specs.Prelude.{List, [], ◌∷◌, ◌++◌, ◌≡◌, refl, ℕ, ◌+◌, ◌-◌, ◌^◌, ◌≤◌, ◌<◌, length, take, drop}
+use Rattle.std.proofs.Common.{◌∙◌, sym, ap, add-zero, arith, append_assoc, drop-drop}
+use Rattle.std.proofs.lemmas.List.Edits.{sets-eq}
+use Rattle.std.proofs.Math.Seq.{append_snoc}
+use borrow.Rule.Slice.PartMut.{put_mid}
 use Rattle.rules.specs.Runner.{space, line_feed}
-use Rattle.lines.specs.Decimal.{decimal_digits, digits-small, digits_large, ten_digits}
-use Rattle.lines.specs.Writing.{Written, written_then, reply_text}
+use Rattle.lines.specs.Decimal.{decimal_digits, ten_digits}
+use Rattle.lines.specs.Writing.{Written, length-kept, written_then, reply_text}
 use Rattle.lines.specs.declared.page.Page.{Page}
 
 -- How many bytes more the page holds.
@@ -48,54 +50,35 @@ adds_within most l a =
       long = a.long;
     }
 
-pub adds_byte : {before between after : Page} (word : List ℕ) (i : ℕ) → i < length word
-    → Adds before between (take i word) i → Adds between after (get_or word i 0 ∷ []) 1
-    → Adds before after (take (i + 1) word) (i + 1)
-adds_byte word i l a b = rw (add-one i, take-suc word i 0 l) (rw (add-one i) at (adds_then a b))
-
-pub adds_all : {before after : Page} (word : List ℕ) (i : ℕ) → length word ≤ i → i ≤ length word
-    → Adds before after (take i word) i → Adds before after word (length word)
-adds_all {before} {after} word i l m a =
-    let all : i ≡ length word = omega arith in
-    rw (all, take-length word) at a
+-- A word copied to where the text ended.
+pub adds_word : {before after : Page} (word : List ℕ) (k : ℕ) → k ≡ length word
+    → before.end + length word ≤ length before.bytes.now → after.bytes.ghost_name ≡ before.bytes.ghost_name
+    → after.bytes.now ≡ put_mid before.end k before.bytes.now word → after.end ≡ before.end + length word
+    → Adds before after word (length word)
+adds_word {before} {after} word k many within same copied ended =
+    let old = before.bytes.now in
+    let at = before.end in
+    let rest : drop k (drop at old) ≡ drop (at + length word) old
+    = drop-drop k at old ∙ ap (λ n. drop (at + n) old) many in
+    let put : put_mid at k old word ≡ take at old ++ word ++ drop (at + length word) old
+    = ap (λ (tail : List ℕ). take at old ++ (word ++ tail)) rest ∙ sym (append_assoc (take at old) word _) in
+    let stored = copied ∙ put ∙ sym (sets-eq word old at within) in
+    let written : Written old after.bytes.now at word after.end = record { stored = stored; ended = ended } in
+    record { same_reference = same; written = written; few = omega (arith, ended); long = length-kept written }
 
 -- ## Numbers
 
--- What stands before the last digit of a number, and the digit.
-module _ (n : ℕ) where
-  pub number_within : {before after : Page} {p : ℕ} → n < 2 ^ 32 → Adds before after (decimal_digits n) p
-      → Adds before after (decimal_digits n) 10
-  number_within l a =
-      record {
-        same_reference = a.same_reference;
-        written = a.written;
-        few = omega (arith, a.written.ended, ten_digits n l);
-        long = a.long;
-      }
-
-  module _ (l : n < 10) where
-    pub digit_room : {left : ℕ} → length (decimal_digits n) ≤ left → 1 ≤ left
-    digit_room h = rw (digits-small n l) at h
-
-    pub digit_added : {before after : Page} → Adds before after ((48 + n % 10) ∷ []) 1
-        → Adds before after (decimal_digits n) 10
-    digit_added a =
-        let same : n % 10 ≡ n = omega arith in
-        rw (digits-small n l) (adds_within 10 (omega arith) (rw same at a))
-
-  module _ (l : 10 ≤ n) where
-    pub digits_room : {left : ℕ} → length (decimal_digits n) ≤ left → length (decimal_digits (n / 10)) ≤ left
-    digits_room h = let more = rw (digits_large n l, length-append) at h in omega arith
-
-    module _ {before between : Page} (a : Adds before between (decimal_digits (n / 10)) 10) where
-      pub last_room : length (decimal_digits n) ≤ room before → 1 ≤ room between
-      last_room h =
-          let more = rw (digits_large n l, length-append) at h in
-          omega (arith, a.written.ended, a.long)
-
-      pub digits_added : {after : Page} → n < 2 ^ 32 → Adds between after ((48 + n % 10) ∷ []) 1
-          → Adds before after (decimal_digits n) 10
-      digits_added m b = number_within {p = 11} m (rw (digits_large n l) (adds_then a b))
+-- A number written by its place: ten digits at most.
+pub adds_number : {before after : Page} (n : ℕ) → n < 2 ^ 32 → after.bytes.ghost_name ≡ before.bytes.ghost_name
+    → Written before.bytes.now after.bytes.now before.end (decimal_digits n) after.end
+    → Adds before after (decimal_digits n) 10
+adds_number n l same w =
+    record {
+      same_reference = same;
+      written = w;
+      few = omega (arith, w.ended, ten_digits n l);
+      long = length-kept w;
+    }
 
 then_text : {before between after : Page} {p q : ℕ} {text : List ℕ} (n x : ℕ)
     → Adds before between (decimal_digits n ++ x ∷ []) p → Adds between after text q

@@ -1,12 +1,12 @@
 -- The text of an answer, and bytes written one after the other.
 -- Assumes nothing.
-use Rattle.std.specs.Prelude.{List, [], ◌∷◌, ◌++◌, ◌≡◌, refl, ℕ, suc, ◌+◌, ◌≤◌, length, take, drop, set}
+use Rattle.std.specs.Prelude.{List, [], ◌∷◌, ◌++◌, ◌≡◌, refl, ℕ, suc, ◌+◌, ◌/◌, ◌%◌, ◌≤◌, ◌<◌, length, take, drop, set}
 use Rattle.std.proofs.Common.{◌∙◌, add-zero, add-suc, suc-add, arith, length-append}
 use Rattle.std.proofs.lemmas.List.Edits.{sets, sets-eq}
 use Rattle.std.proofs.Math.Seq.{length-sets}
 use Rattle.rules.specs.Text.{bytes}
 use Rattle.rules.specs.Runner.{space, line_feed}
-use Rattle.lines.specs.Decimal.{decimal_digits}
+use Rattle.lines.specs.Decimal.{decimal_digits, digits-small, digits_large}
 
 -- Numbers separated by single spaces, ended by a line feed.
 abbrev pub reply_text : List ℕ → List ℕ
@@ -34,6 +34,9 @@ module _ {before after : List ℕ} {at : ℕ} {text : List ℕ} {end : ℕ} (w :
   pub length-kept : length after ≡ length before
   length-kept = rw w.stored (length-sets before at text)
 
+  pub room-left : at + length text < length before → end < length after
+  room-left l = omega (arith, length-kept, w.ended)
+
 sets-append : (ws : List ℕ) (at : ℕ) (xs ys : List ℕ)
     → sets (sets ws at xs) (at + length xs) ys ≡ sets ws at (xs ++ ys)
 sets-append ws at [] ys = rw add-zero
@@ -48,3 +51,29 @@ written_then {before} {between} {after} {at} {xs} {seam} {ys} {end} w v =
       stored = v.stored ∙ rw (w.stored, w.ended) (sets-append before at xs ys);
       ended = rw length-append (omega (arith, w.ended, v.ended));
     }
+
+one_byte : (ws : List ℕ) (at x : ℕ) → Written ws (set ws at x) at (x ∷ []) (at + 1)
+one_byte ws at x = record { stored = refl; ended = refl }
+
+then_byte : {before between : List ℕ} {at : ℕ} {xs : List ℕ} {seam : ℕ} → Written before between at xs seam
+    → (x : ℕ) → Written before (set between seam x) at (xs ++ x ∷ []) (seam + 1)
+then_byte {between = between} {seam = seam} w x = written_then w (one_byte between seam x)
+
+-- ## One number
+
+module _ (n : ℕ) where
+  pub small-room : {at room : ℕ} → n < 10 → at + length (decimal_digits n) ≤ room → at < room
+  small-room l h = let h₁ = rw (digits-small n l) at h in omega arith
+
+  pub small-written : (ws : List ℕ) (at : ℕ) → n < 10
+      → Written ws (set ws at (48 + n)) at (decimal_digits n) (at + 1)
+  small-written ws at l = rw (digits-small n l) (one_byte ws at (48 + n))
+
+  pub large_room : (at : ℕ) {room : ℕ} → 10 ≤ n → at + length (decimal_digits n) ≤ room
+      → at + length (decimal_digits (n / 10)) < room
+  large_room at l h = let h₁ = rw (digits_large n l, length-append) at h in omega arith
+
+  pub large_written : {before between : List ℕ} {at seam : ℕ} → 10 ≤ n
+      → Written before between at (decimal_digits (n / 10)) seam
+      → Written before (set between seam (48 + n % 10)) at (decimal_digits n) (seam + 1)
+  large_written l w = rw (digits_large n l) (then_byte w (48 + n % 10))

@@ -3,6 +3,8 @@ ghost use Rattle.std.specs.Prelude.{◌≡◌, [], ◌∷◌, ◌++◌, ◌+◌,
 ghost use Rattle.lines.specs.Decimal.{decimal_digits};
 ghost use Rattle.lines.specs.Writing.{reply_text};
 
+use crate::writing::write_number;
+
 // The text ends at `end`; the bytes that follow are room for more.
 #[derive(Drop)]
 pub struct Page<'a> {
@@ -33,20 +35,21 @@ impl<'a> Page<'a> {
         requires { length word.now ≤ room self.old }
         ensures { Adds self.old self.new word.now (length word.now) }
     {
-        for byte in word {
-            self.write_byte(*byte);
+        // A page whose text ends past its bytes takes an empty word.
+        if word.is_empty() {
+            return;
         }
+        let end = self.end + word.len();
+        self.bytes[self.end..end].copy_from_slice(word);
+        self.end = end;
     }
 
-    // In decimal, without leading zeros: the digits before the last first.
+    // In decimal, without leading zeros.
     pub fn write_number(&mut self, n: u32)
         requires { length (decimal_digits n) ≤ room self.old }
         ensures { Adds self.old self.new (decimal_digits n) 10 }
     {
-        if n >= 10 {
-            self.write_number(n / 10);
-        }
-        self.write_byte(b'0' + (n % 10) as u8);
+        self.end = write_number(self.bytes, self.end, n);
     }
 
     // A word, and a number after it.

@@ -5,20 +5,23 @@ ghost use Rattle.lines.specs.Writing.{reply_text, Written};
 
 use crate::page::Page;
 
-// In decimal, without leading zeros. Answers where it ends. Both functions are public, and stay beside the page's own.
+// In decimal, without leading zeros: the digits before the last first. Answers where it ends. It hands the place on to
+// itself as a number: a page that it handed on would lie in memory, and each byte take longer.
 pub fn write_number(out: &mut [u8], at: usize, n: u32) -> usize
     requires { at + length (decimal_digits n) ≤ length out.old }
     ensures { Written out.old out.new at (decimal_digits n) result }
 {
-    let mut page = Page {
-        bytes: out,
-        end: at,
-    };
-    page.write_number(n);
-    page.end
+    if n < 10 {
+        out[at] = b'0' + n as u8;
+        return at + 1;
+    }
+    let end = write_number(out, at, n / 10);
+    out[end] = b'0' + (n % 10) as u8;
+    end + 1
 }
 
-// The four numbers with single spaces and a line feed. Answers where they end.
+// The four numbers with single spaces and a line feed. Answers where they end. Both functions are public, and stay
+// beside the page's own.
 pub fn write_reply(
     out: &mut [u8],
     at: usize,

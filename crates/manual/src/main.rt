@@ -2,7 +2,7 @@
 // new image and is echoed; every other line is answered as the step runner answers it.
 #![tactic(auto)]
 
-ghost use Rattle.std.specs.Prelude.{◌≡◌};
+ghost use Rattle.std.specs.Prelude.{◌≡◌, ℕ, ◌<◌, ◌≤◌, ◌≢◌, length, slice_index};
 ghost use Rattle.store.specs.Layout.{words, parse};
 ghost use Rattle.stepping.specs.Answering.{Ready};
 ghost use Rattle.manual.specs.Replaying.{named, replayed};
@@ -34,16 +34,27 @@ fn replay_line(rt: &impl Print, image: &mut [u32; 6952], line: &[u8]) -> io::Res
     rt.write_all(&out[..end])
 }
 
+// The place of the first newline, or the length.
+fn line_end(text: &[u8]) -> usize
+    ensures high { result ≤ length text.now }
+    ensures before { (k : ℕ) → k < result → slice_index text.now k ≢ 10 }
+    ensures found { result < length text.now → slice_index text.now result ≡ 10 }
+{
+    text.iter()
+        .position(|byte| *byte == b'\n')
+        .unwrap_or(text.len())
+}
+
 fn replay(rt: &impl Print, image: &mut [u32; 6952], lessons: &[u8]) -> io::Result<()>
     requires { Ready image.old }
 {
     let mut rest = lessons;
     // A `for` over `lessons.split_inclusive(..)` gets no proof in a function over an `impl Print`.
     while !rest.is_empty() {
-        let newline = rest.iter().position(|byte| *byte == b'\n');
-        let end = newline.unwrap_or(rest.len());
-        replay_line(rt, image, &rest[..end])?;
-        rest = rest.get(end + 1..).unwrap_or(&[]);
+        let (line, others) = rest.split_at(line_end(rest));
+        replay_line(rt, image, line)?;
+        // Behind the newline.
+        rest = others.get(1..).unwrap_or(&[]);
     }
     Ok(())
 }

@@ -27,11 +27,11 @@ struct Back {
     start: usize,
 }
 
-// The steps to take from the base.
+// The base, and where in the lent room the steps to take from it begin.
 #[derive(Clone, Copy)]
-pub struct Replay<'a> {
+pub struct Replay {
     pub base: u32,
-    pub steps: &'a [Step],
+    pub start: usize,
 }
 
 fn last_entry(image: &[u32], s: Shape) -> Entry
@@ -165,42 +165,42 @@ fn push_newest(steps: &mut [Step], start: usize, newest: Option<u32>) -> usize
 }
 
 // "Removal: base, then the remembered prototype if there was one, then yielded keys in their old order."
-pub fn removal_steps<'a>(image: &[u32], n: u32, key: u32, room: &'a mut [Step]) -> Replay<'a>
+pub fn removal_steps(image: &[u32], n: u32, key: u32, room: &mut [Step]) -> Replay
     requires formed { Formed image.now }
     requires sound { Sound (parse image.now) }
     requires shared_at { SharedAt (parse image.now) n }
     requires n_value { has key (entries_at (parse image.now) n) ≡ true }
     requires in_bounds { 1024 ≤ length room.old }
     ensures base_value { result.base ≡ (rollback (parse image.now) n key).base }
-    ensures steps_value { map step_in result.steps.now ≡
-        (rollback (parse image.now) n key).newest
-        ++ (rollback (parse image.now) n key).yielded }
+    ensures steps_from { StepsFrom room.new result.start
+        ((rollback (parse image.now) n key).newest
+        ++ (rollback (parse image.now) n key).yielded) }
 {
     let back = rollback_before(image, n, key, room);
     let start = push_newest(room, back.start, back.newest);
     Replay {
         base: back.base,
-        steps: &room[start..],
+        start,
     }
 }
 
 // "Change of width: base, prototype, the key with new attributes, then the yielded keys".
-pub fn change_steps<'a>(
+pub fn change_steps(
     image: &[u32],
     n: u32,
     key: u32,
     attributes: SlotAttributes,
-    room: &'a mut [Step],
-) -> Replay<'a>
+    room: &mut [Step],
+) -> Replay
     requires formed { Formed image.now }
     requires sound { Sound (parse image.now) }
     requires shared_at { SharedAt (parse image.now) n }
     requires n_value { has key (entries_at (parse image.now) n) ≡ true }
     requires in_bounds { 1024 ≤ length room.old }
     ensures base_value { result.base ≡ (rollback (parse image.now) n key).base }
-    ensures steps_value { map step_in result.steps.now ≡
-        (rollback (parse image.now) n key).newest
-        ++ insert key attributes.0 ∷ (rollback (parse image.now) n key).yielded }
+    ensures steps_from { StepsFrom room.new result.start
+        ((rollback (parse image.now) n key).newest
+        ++ insert key attributes.0 ∷ (rollback (parse image.now) n key).yielded) }
 {
     let back = rollback_before(image, n, key, room);
     let attributes = attributes.0 as u32;
@@ -208,6 +208,6 @@ pub fn change_steps<'a>(
     let start = push_newest(room, later, back.newest);
     Replay {
         base: back.base,
-        steps: &room[start..],
+        start,
     }
 }

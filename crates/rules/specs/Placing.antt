@@ -7,16 +7,21 @@ use Rattle.std.proofs.lemmas.List.{length-drop, take_all, drop-map}
 use Rattle.store.specs.Model.{Model}
 use Rattle.store.specs.Image.{Becomes, and_then}
 use Rattle.rules.specs.declared.Step.{Step as StepValue}
+use Rattle.rules.specs.declared.StepRecord.{StepRecord}
 use Rattle.rules.specs.declared.Step.TheVariants.{Insert, Configure, Prototype}
 use Rattle.rules.specs.declared.Refusal.{Refusal}
 use Rattle.rules.specs.Refusals.{Got, ok, refused}
-use Rattle.rules.specs.Steps.{Step, insert, configure, prototype, Placed}
+use Rattle.rules.specs.Steps.{Step, insert, configure, prototype, step_of_kind, Placed}
 
 -- The definitions' step for the code's.
 abbrev pub step_in : StepValue → Step
 step_in (Insert k a) = insert k a
 step_in (Configure k a) = configure k a
 step_in (Prototype p) = prototype p
+
+-- The step that three numbers say.
+abbrev pub step_of_record : StepRecord → Step
+step_of_record t = step_of_kind t.kind t.label t.attributes
 
 -- What is left of a list from one step on: that step first.
 pub next_step : (xs : List StepValue) (i : ℕ) (d : StepValue) → i < length xs

@@ -4,6 +4,9 @@
 
 ghost use Rattle.std.specs.Prelude.{◌≡◌};
 ghost use Rattle.rules.specs.Numbers.{good_key};
+ghost use Rattle.rules.specs.Placing.{step_in, step_of_record};
+
+use store::StepKind;
 
 const ONE_KIND: u32 = 1 << 30;
 
@@ -45,6 +48,37 @@ pub enum Step {
     Insert { key: u32, attributes: u32 },
     Configure { key: u32, attributes: u32 },
     Prototype(u32),
+}
+
+// A step told by three numbers, as a record's words tell it: its kind, the key or the prototype, and the attributes.
+#[derive(Clone, Copy)]
+pub struct StepRecord {
+    // a StepKind: every other number is a prototype's too
+    pub kind: u32,
+    pub label: u32,
+    // nothing looks at a prototype's
+    pub attributes: u32,
+}
+
+// So whoever has three numbers, whichever they are, has a step for the functions that take one.
+impl From<StepRecord> for Step {
+    ghost from_gives = { λ t step. step_in step ≡ step_of_record t };
+
+    fn from(t: StepRecord) -> Step {
+        if t.kind == StepKind::INSERT {
+            return Step::Insert {
+                key: t.label,
+                attributes: t.attributes,
+            };
+        }
+        if t.kind == StepKind::CONFIGURE {
+            return Step::Configure {
+                key: t.label,
+                attributes: t.attributes,
+            };
+        }
+        Step::Prototype(t.label)
+    }
 }
 
 // A shape that a call gives, with one hold more.

@@ -1,12 +1,14 @@
 -- The steps of a removal and of a change: they may be taken, and they are the rule's.
 -- Assumes nothing.
-use Rattle.std.specs.Prelude.{Bool, true, false, List, ◌∷◌, ◌++◌, ◌≡◌, ℕ, ◌≤◌, ◌<◌, Some}
-use Rattle.std.proofs.Common.{sym, ◌∙◌, arith, le-leb}
+use Rattle.std.specs.Prelude.{Bool, true, false, List, ◌∷◌, ◌++◌, ◌≡◌, ℕ, ◌-◌, ◌≤◌, ◌<◌, Some, length, take, drop, map}
+use Rattle.std.proofs.Common.{sym, ap, ◌∙◌, arith, le-leb}
 use Rattle.slot.specs.Attributes.{most_stored, same_width}
 use Rattle.store.specs.Model.{Model, shape_at}
 use Rattle.store.specs.ListLaws.{both-and}
 use Rattle.store.specs.declared.Entry.{Entry}
 use Rattle.rules.specs.Numbers.{good_key}
+use Rattle.rules.specs.declared.Step.{Step as StepValue}
+use Rattle.rules.specs.Placing.{step_in, steps_from}
 use Rattle.rules.specs.Shapes.{has, attributes_in}
 use Rattle.rules.specs.Steps.{Step, insert, configure, Back, steps, step, rollback, remove_shared}
 use Rattle.rules.specs.Steps.{change_shared}
@@ -20,6 +22,13 @@ use Rattle.property_table.specs.declared.Property.{Property}
 use Rattle.property_table.specs.Lookup.{looked_up, looked_attributes}
 use Rattle.plan.specs.PlanRight.{LegalSteps}
 use Rattle.plan.specs.PlanLegal.{legal_steps}
+use Rattle.rollback.specs.StepsFrom.{StepsFrom}
+
+-- The part of the room from a place on has the steps that stand there.
+pub left_from : {room : List StepValue} {start : ℕ} {ts : List Step} → length room ≡ 1024 → StepsFrom room start ts
+    → map step_in (take (1024 - start) (drop start room)) ≡ ts
+left_from {room} {start} all from =
+    ap (λ n. map step_in (take (n - start) (drop start room))) (sym all) ∙ steps_from room start ∙ from.steps
 
 module _ (m : Model) (sound : Sound m) (n k : ℕ) (is_shared : SharedAt m n)
     (holds : has k (entries_at m n) ≡ true) where

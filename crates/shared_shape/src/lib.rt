@@ -26,6 +26,12 @@ use store::image::get_shape;
 
 const MOST_TRANSITIONS: u32 = 1024;
 
+// What stands in the room before steps do: of zeros alone, which memory is filled with fastest.
+const NO_STEP: Step = Step::Insert {
+    key: 0,
+    attributes: 0,
+};
+
 // "If the final result has 1,024 transitions, a new unique shape copies its keys and prototype".
 fn limited(image: &mut [u32], n: u32) -> Result<u32, Refusal>
     requires formed { Formed image.old }
@@ -101,9 +107,9 @@ pub fn remove_property_transition(image: &mut [u32], n: u32, key: u32) -> Result
     ensures { Places image.old image.new
         (then_limit (remove_shared (parse image.old) n key)) result }
 {
-    let mut room = [Step::Prototype(0); 1024];
+    let mut room = [NO_STEP; 1024];
     let replay = removal_steps(image, n, key, &mut room);
-    transition(image, replay.base, replay.steps)
+    transition(image, replay.base, &room[replay.start..])
 }
 
 fn change_width(
@@ -121,9 +127,9 @@ fn change_width(
     ensures { Places image.old image.new
         (then_limit (change_shared (parse image.old) n key attributes.0)) result }
 {
-    let mut room = [Step::Prototype(0); 1024];
+    let mut room = [NO_STEP; 1024];
     let replay = change_steps(image, n, key, attributes, &mut room);
-    transition(image, replay.base, replay.steps)
+    transition(image, replay.base, &room[replay.start..])
 }
 
 fn width_stays(image: &[u32], n: u32, key: u32, attributes: SlotAttributes) -> bool

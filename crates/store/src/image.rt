@@ -9,7 +9,7 @@ ghost use Rattle.store.specs.Image.{Formed, Place, Becomes};
 ghost use Rattle.store.specs.Tables.{Edited};
 
 use crate::records::{edit_table, read_edge, read_entry, read_shape, write_edge, write_shape};
-use crate::rows::{count_unused, lowest_unused, row, row_at};
+use crate::rows::{clear, count_unused, lowest_unused, row, row_at};
 use crate::{Edge, Entry, Shape};
 use slot::KeyPosition;
 
@@ -214,7 +214,7 @@ pub fn free_table(image: &mut [u32], t: u32)
     let width = table_width(image);
     let at = row_at(image, tables(image), width, t);
     let end = at + width;
-    image[at..end].fill(0);
+    clear(&mut image[at..end]);
 }
 
 pub fn empty_table(image: &mut [u32], t: u32)

@@ -2,7 +2,7 @@
 
 const MOST_HANDLES: u32 = 1036;
 
-#[derive(Drop)]
+#[derive(Clone, Copy)]
 pub struct Handles {
     // At a handle, the shape number that it stands for: 0, which every call refuses with 4, where it was never given
     // or is released.

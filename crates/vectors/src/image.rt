@@ -18,7 +18,7 @@ pub enum Answer {
 }
 
 // The front of the words.
-#[derive(Drop)]
+#[derive(Clone, Copy)]
 pub struct Image {
     words: [u32; MOST_WORDS],
     // what the limits ask for

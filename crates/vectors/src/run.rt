@@ -5,7 +5,7 @@ use lines::Command;
 use rules::Refusal;
 use store::Limits;
 
-#[derive(Drop)]
+#[derive(Clone, Copy)]
 pub struct Run {
     pub image: Image,
     pub handles: Handles,

@@ -1,9 +1,7 @@
 -- `rollback::removal_steps` meets its contract. Assumes nothing.
-use mathlib.Core.Path.{◌∙◌}
 use native.Mathlib.Omega.{arith}
 use borrow.Author.Rules.{rules}
 use Rattle.store.specs.Layout.{parse}
-use Rattle.rules.specs.Placing.{steps_from}
 use Rattle.rollback.specs.StepsFrom.{places_left}
 use Rattle.rollback.specs.WalkBack.{remembered_few}
 use Rattle.rollback.proofs.removal_steps.Goals as goal
@@ -20,9 +18,7 @@ push_newest-start-requires-clause-newest_len_bound c =
 pub push_newest-start-requires-clause-start_in_bounds : goal.push_newest-start-requires-clause-start_in_bounds
 push_newest-start-requires-clause-start_in_bounds c = c.rollback_before-back.ensures.steps_from.inside
 
-pub returns-clause-steps_value : goal.returns-clause-steps_value
-returns-clause-steps_value c =
+pub returns-clause-steps_from : goal.returns-clause-steps_from
+returns-clause-steps_from c =
     let back = c.rollback_before-back.ensures in
-    let pushed = c.push_newest-start in
-    let left = steps_from pushed.new.steps pushed.result in
-    left ∙ (rw (back.newest_after, back.steps_from.steps) at pushed.ensures).steps
+    rw (back.newest_after, back.steps_from.steps) at c.push_newest-start.ensures

@@ -2,7 +2,6 @@
 use Rattle.store.specs.Tables.{cleared_becomes}
 use Rattle.store.specs.Image.{table_row}
 use mathlib.Core.Path.{refl}
-use Rattle.std.proofs.Common.{rules}
 use native.Mathlib.Omega.{arith}
 use Rattle.store.proofs.image.free_table.Goals as goal
 
@@ -13,8 +12,8 @@ row_at-at-requires c =
     let table-width = c.table_width-width in
     (pre.place.low, (table_row pre.formed tables.ensures table-width.ensures pre.place).inside)
 
-pub slice_bounds-fill-end : goal.slice_bounds-fill-end
-slice_bounds-fill-end c =
+pub slice_bounds-clear-end : goal.slice_bounds-clear-end
+slice_bounds-clear-end c =
     let pre = c.requires in
     let tables = c.tables in
     let table-width = c.table_width-width in
@@ -27,4 +26,4 @@ returns c =
     let table-width = c.table_width-width in
     let row_at = c.row_at-at in
     cleared_becomes pre.formed pre.place tables.ensures table-width.ensures row_at.ensures refl
-    (search rules)
+    c.clear.ensures

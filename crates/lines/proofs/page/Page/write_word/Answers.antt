@@ -1,15 +1,16 @@
 -- `lines::page::Page::write_word` meets its contract. Assumes nothing.
-use Rattle.lines.specs.Pages.{adds_nothing, adds_byte, adds_all}
+use Rattle.std.proofs.Common.{ap, refl, length, ◌+◌, ◌-◌, ◌≤◌, ◌≡◌}
+use native.Mathlib.Omega.{arith}
+use borrow.Rule.Slice.PartMut.{put_mid}
+use Rattle.lines.specs.Pages.{adds_word}
 use Rattle.lines.proofs.page.Page.write_word.Goals as goal
-
-pub loop-byte-init : goal.loop-byte-init
-loop-byte-init c = adds_nothing c.args.self.now 0
-
-pub loop-byte-preserved : goal.loop-byte-preserved
-loop-byte-preserved c =
-    adds_byte c.args.word.now c.loop-byte.byte-index c.loop-byte-test.true c.loop-byte.invariant c.write_byte.ensures
 
 pub returns : goal.returns
 returns c =
-    adds_all c.args.word.now c.loop-byte.byte-index c.loop-byte-test.false c.loop-byte.auto.byte-index-end
-    c.loop-byte.invariant
+    let word = c.args.word.now in
+    let page = c.args.self.now in
+    let many = page.end + length word - page.end in
+    let within : page.end + length word ≤ length page.bytes.now =
+    grind (arith, c.requires, c.is_empty.ensures, c.if-is_empty.false) in
+    let all : many ≡ length word = omega arith in
+    adds_word word many all within refl (ap (put_mid page.end many page.bytes.now) c.copy_from_slice.ensures.after) refl

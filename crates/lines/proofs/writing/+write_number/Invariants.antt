@@ -1,4 +1,4 @@
-use Rattle.lines.proofs.page.Page.+write_number.Given as goal
+use Rattle.lines.proofs.writing.+write_number.Given as goal
 
 -- proposed from what the function passes where it calls itself
 abbrev pub decreases-write_number : goal.decreases-write_number
